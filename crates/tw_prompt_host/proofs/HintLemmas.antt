@@ -13,11 +13,11 @@ use Rattle.std.proofs.lemmas.Str.{IsCharBoundary-end, IsCharBoundary-from_drop}
 use Rattle.std.proofs.lemmas.Str.Pattern.{starts_text}
 use Rattle.tw_line.specs.Extremes.{greatest_below}
 use Rattle.tw_line.specs.NearestMatch.{line_at}
-use Rattle.tw_prompt_host.specs.Hint.{is_longer, newest_rest, rest_behind, continuation_of}
+use Rattle.tw_prompt_host.specs.Hint.{is_longer, newest_rest, continuation_of}
 use Rattle.tw_key_parts.proofs.UndoLemmas.{one_more}
 
 -- what `strip_prefix` leaves
-pub strip_text : (r : Option (Bor (List ℕ))) (n s : List ℕ) → MatchOption r (FindsTextPrefix n s None) (λ x. StripsPrefix (FindsTextPrefix n) s x.now) → option_map (λ x. x.now) r ≡ rest_behind n s
+pub strip_text : (r : Option (Bor (List ℕ))) (n s : List ℕ) → MatchOption r (FindsTextPrefix n s None) (λ x. StripsPrefix (FindsTextPrefix n) s x.now) → option_map (λ x. x.now) r ≡ (if starts_with eqb s n then Some (drop (length n) s) else None)
 strip_text None n s h = let e : starts_with eqb s n ≡ false = sym (starts_text false n s h) in rw e refl
 strip_text (Some x) n s h =
     let e : starts_with eqb s n ≡ true = (starts_is Decides-eqb s n _ refl).1 _ h.1.1 in

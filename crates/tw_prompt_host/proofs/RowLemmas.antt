@@ -2,6 +2,7 @@
 use Rattle.std.proofs.Common.{◌≡◌, ◌≢◌, ℕ, zero, suc, ◌+◌, ◌<◌, ◌≤◌, ◌%◌, ◌-◌, ◌&&◌, ◌||◌, eqb, ltb, Bool, true, false, not, List, [], ◌∷◌, ◌++◌, length, take, drop, get_or, Option, Some, None, refl, ap, sym, ◌∙◌, inl, inr, ◌⊎◌, arith, append_assoc, append-nil, length-append, subst, take-append-drop}
 use Rattle.std.specs.List.{list_all}
 use Rattle.std.proofs.Math.Nat.{add-mod, add-mod_left, mod-eq_of_lt, mod-lt, mod_self}
+use Rattle.std.proofs.Math.Bool.{or-false}
 use Rattle.std.proofs.lemmas.Bool.{and_from, and_parts, cases_eq, cases_lt, eq-eqb, lt-ltb, ne_eqb, true≢false}
 use Rattle.std.proofs.lemmas.List.{length-take-le, take_all}
 use Rattle.std.proofs.lemmas.List.Folds.{list_all-append}
@@ -15,7 +16,7 @@ use Rattle.tw_host.specs.ElementView.{ElementView, Attribute, AllAttributes, Tex
 use Rattle.tw_host.specs.Faithful.{text_of_elements}
 use Rattle.tw_hosts.specs.SettledRules.{PromptScreenView, column_on}
 use Rattle.tw_hosts.proofs.SettlingLemmas.{printable_is_plain}
-use Rattle.tw_prompt_host.specs.Rows.{RowView, before_row, before_rows, break_elements, columns_behind, elements_from, elements_of_rows, empty_first_row, is_row_character, last_shown, next_row, row_behind, row_break, row_columns, row_edge, row_with, rows_of_text, shown_cut, spread, spread_cut, spread_from}
+use Rattle.tw_prompt_host.specs.Rows.{RowView, before_row, before_rows, break_elements, columns_behind, elements_from, elements_of_rows, empty_first_row, is_row_character, last_shown, next_row, row_behind, row_break, row_columns, row_edge, row_with, rows_of_text, spread, spread_cut, spread_from}
 use Rattle.tw_prompt_host.specs.RowLaws.{ArePrintablePrompts, ElementsAreSpread, OneRowIsSettled, PrintableCutIsShown, PrintableIsShown, PrintableIsSpread, is_one_row}
 
 -- ---- pieces of a text between line feeds
@@ -198,18 +199,6 @@ module _ (screen : PromptScreenView) (continuation : List ℕ) where
           rw (e, it.2, one-before set row b it.0 it.1)
           (ap (λ rows. b ∷ text_of_elements (elements_of_rows screen continuation set (row_with row (b ∷ [])) rows)) (sym it.2) ∙ ap (λ text. b ∷ text) (so (row_with row (b ∷ []))))
 
-  all-text : (set : Option CellAttributes) (row : RowView) (elements : List ElementView)
-      → text_of_elements (elements_from screen continuation set row elements) ≡ spread_from screen continuation row (text_of_elements elements)
-  all-text set row [] = refl
-  all-text set row (Attribute change ∷ more) = all-text _ row more
-  all-text set row (AllAttributes attributes ∷ more) = all-text (Some attributes) row more
-  all-text set row (Text text ∷ more) =
-      rw (
-        text-append (elements_of_rows screen continuation set row (rows_of_text text)) (elements_from screen continuation set (row_behind row text) more),
-        text-of-rows set row text,
-        all-text set (row_behind row text) more,
-      ) (sym (spread-append row text (text_of_elements more)))
-
   -- ---- one row
 
   no-feed : (text : List ℕ) → is_one_row text ≡ true → HasNoFeed text
@@ -244,7 +233,15 @@ one_row_is_settled screen continuation cut shown inside line elements =
     (ap (λ c. record { elements = shown.elements; column = column_on screen c }) (one-row-cut screen continuation cut inside line))
 
 pub elements_are_spread : ElementsAreSpread
-elements_are_spread screen continuation = all-text screen continuation
+elements_are_spread screen continuation set row [] = refl
+elements_are_spread screen continuation set row (Attribute change ∷ more) = elements_are_spread screen continuation _ row more
+elements_are_spread screen continuation set row (AllAttributes attributes ∷ more) = elements_are_spread screen continuation (Some attributes) row more
+elements_are_spread screen continuation set row (Text text ∷ more) =
+    rw (
+      text-append screen continuation (elements_of_rows screen continuation set row (rows_of_text text)) (elements_from screen continuation set (row_behind row text) more),
+      text-of-rows screen continuation set row text,
+      elements_are_spread screen continuation set (row_behind row text) more,
+    ) (sym (spread-append screen continuation row text (text_of_elements more)))
 
 -- ---- printable rows
 
@@ -253,11 +250,7 @@ unfolding column_width
 printable-width text h = rw h refl
 
 printable-of : (b : ℕ) → is_row_character b ≡ true → eqb b lf ≡ false → is_printable b ≡ true
-printable-of b h e = by (is_printable b) refl
-  where
-    by : (x : Bool) → is_printable b ≡ x → is_printable b ≡ true
-    by true f = f
-    by false f = absurd (let z : (is_printable b || eqb b lf) ≡ false = rw (f, e) refl in true≢false (sym h ∙ z))
+printable-of b h e = sym (or-false (is_printable b)) ∙ ap (λ x. is_printable b || x) (sym e) ∙ h
 
 module _ (screen : PromptScreenView) (continuation : List ℕ) (prompts : ArePrintablePrompts screen.prompt continuation) where
   before-printable : (is_first : Bool) → list_all is_printable (before_row screen continuation is_first) ≡ true
@@ -306,29 +299,22 @@ module _ (screen : PromptScreenView) (continuation : List ℕ) (prompts : ArePri
           let rest = so (row_with row (b ∷ [])) (n + 1) (with-letter row b h (printable-of b mine f)) more in
           rw f (ap (λ rest. b ∷ rest) rest.0, rest.1, rest.2)
 
-  printable-first : (text : List ℕ) → list_all is_row_character text ≡ true → spread_from screen continuation empty_first_row text ≡ spread screen.cols continuation (length screen.prompt) text
-  printable-first text t = (counted empty_first_row (length screen.prompt) text refl t (omega arith)).0
-
-  printable-cut : (before rest : List ℕ) → list_all is_row_character before ≡ true → list_all is_row_character rest ≡ true
-      → spread_cut screen continuation before rest ≡ shown_cut screen.cols continuation (length screen.prompt) before rest
-  printable-cut before rest b r =
-      let behind = counted empty_first_row (length screen.prompt) before refl b (omega arith) in
-      let at = columns_behind (length continuation) (length screen.prompt) before in
-      rw (behind.0, (counted (row_behind empty_first_row before) at rest behind.1 r behind.2).0) refl
-
 pub printable_is_spread : PrintableIsSpread
-printable_is_spread screen continuation text prompts t = printable-first screen continuation prompts text t
+printable_is_spread screen continuation text prompts t = (counted screen continuation prompts empty_first_row (length screen.prompt) text refl t (omega arith)).0
 
 pub printable_cut_is_shown : PrintableCutIsShown
-printable_cut_is_shown screen continuation before rest prompts b r = printable-cut screen continuation prompts before rest b r
+printable_cut_is_shown screen continuation before rest prompts b r =
+    let behind = counted screen continuation prompts empty_first_row (length screen.prompt) before refl b (omega arith) in
+    let at = columns_behind (length continuation) (length screen.prompt) before in
+    rw (behind.0, (counted screen continuation prompts (row_behind empty_first_row before) at rest behind.1 r behind.2).0) refl
 
 pub printable_is_shown : PrintableIsShown
 printable_is_shown screen continuation cut shown prompts line faithful =
     let parts = list_all-append is_row_character (take cut.cursor cut.line) (drop cut.cursor cut.line) in
     let both = and_parts (list_all is_row_character (take cut.cursor cut.line)) (list_all is_row_character (drop cut.cursor cut.line))
     (sym parts ∙ ap (list_all is_row_character) (take-append-drop cut.cursor cut.line) ∙ line) in (
-      all-text screen continuation None empty_first_row shown.elements ∙ ap (spread_from screen continuation empty_first_row) faithful ∙ printable-first screen continuation prompts cut.line line,
-      ap (column_on screen) (printable-cut screen continuation prompts (take cut.cursor cut.line) (drop cut.cursor cut.line) both.0 both.1),
+      elements_are_spread screen continuation None empty_first_row shown.elements ∙ ap (spread_from screen continuation empty_first_row) faithful ∙ printable_is_spread screen continuation cut.line prompts line,
+      ap (column_on screen) (printable_cut_is_shown screen continuation (take cut.cursor cut.line) (drop cut.cursor cut.line) prompts both.0 both.1),
     )
 
 -- ---- whether a row is full

@@ -8,7 +8,7 @@ use Rattle.tw_host.specs.HostRules.{HostRules, or_default}
 use Rattle.tw_key_parts.specs.KeyRules.{KeyRules}
 use Rattle.tw_key_parts.specs.SearchWatch.{has_lines, searches_after}
 use Rattle.tw_prompt_host.specs.FailingSearch.{is_failing}
-use Rattle.tw_prompt_host.specs.Going.{before_search_after, comes_back_after, give_up_key, event_line}
+use Rattle.tw_prompt_host.specs.Going.{comes_back_after, give_up_key, event_line}
 use Rattle.tw_prompt_host.specs.PromptLaws.{GivesLineBack, KeepsLineOfSearch}
 use Rattle.tw_prompt_host.specs.PromptRules.{Prompted, prompt_rules, said}
 use Rattle.tw_prompt_host.specs.Rows.{are_shown}
@@ -19,20 +19,14 @@ pub said_all : (kept opens : Bool) (a action : Option ActionView) → is_accepti
 said_all true opens a action e = ap (λ b. said b opens action) e
 said_all false opens a action e = refl
 
-begun_line : (searched searches : Bool) (line : Cut) (before : Option Cut) → searched ≡ false → searches ≡ true → before_search_after searched searches line before ≡ Some line
-begun_line searched searches line before e d = rw (e, d) refl
-
-kept_line : (searched searches : Bool) (line : Cut) (before : Option Cut) → searched ≡ true → searches ≡ true → before_search_after searched searches line before ≡ before
-kept_line searched searches line before e d = rw (e, d) refl
-
 module _ {V S K : Type 0} (keys : KeyRules S K) (rules : HostRules V) where
   abbrev Host : HostRules (Prompted V S)
   Host = prompt_rules keys rules
 
   pub keeps_line_of_search : KeepsLineOfSearch keys rules
   keeps_line_of_search = record {
-    begun = λ v event cut still searches. begun_line v.going.searching _ (event_line v.going cut) v.going.before_search still searches;
-    kept = λ v event cut searching searches. kept_line v.going.searching _ (event_line v.going cut) v.going.before_search searching searches;
+    begun = λ v event cut still searches. rw (searches, still) refl;
+    kept = λ v event cut searching searches. rw (searches, searching) refl;
   }
 
   -- a search that is given up is left, and its line comes back

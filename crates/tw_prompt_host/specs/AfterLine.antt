@@ -2,6 +2,7 @@
 use Rattle.std.specs.Prelude.{ℕ, ◌+◌, ◌-◌, ◌%◌, ◌==◌, Bool, true, not, ◌&&◌, leb, List, [], ◌∷◌, ◌++◌, length, chars, encode_utf8, if◌then◌else◌, Option, Some, None}
 use Rattle.std.specs.Char.{is_control}
 use Rattle.std.specs.List.{list_all, list_any}
+use Rattle.std.specs.Option.{option_map_or}
 use Rattle.unicode_segmentation.specs.Grapheme.{graphemes}
 use Rattle.tw_surface.specs.Places.{is_in_range, origin, pieces, places_after}
 use Rattle.tw_surface.specs.Width.{cluster_width}
@@ -22,20 +23,12 @@ abbrev pub prompt_column : ℕ → List ℕ → Option ℕ
 prompt_column cols prompt =
     if (leb 1 cols && leb cols 65535) && list_all is_in_range (places_after cols (pieces prompt) origin) then Some (line_start cols prompt).x else None
 
--- the columns after the cell in which the editor shows the cursor at the end of a row, but for the last one, which
+-- the columns of a row after the cell in which the editor shows the cursor at its end, but for the last one, which
 -- stays empty; there are none after a row with a control character
-abbrev pub room_from : Option ℕ → ℕ → List ℕ → List ℕ → ℕ
-room_from None cols before row = 0
-room_from (Some start) cols before row =
-    if has_control row then 0 else cols - 1 - (start + settled_column cols before (at_end row)) % cols
-
--- for a row after a prompt
 abbrev pub room_after : ℕ → List ℕ → List ℕ → ℕ
-room_after cols before row = room_from (prompt_column cols before) cols before row
-
--- for the last row of a line
-abbrev pub room_on : PromptScreenView → Option (List ℕ) → List ℕ → ℕ
-room_on screen rows line = let shown = last_shown screen rows line in room_after screen.cols shown.0 shown.1
+room_after cols before row =
+    let room : ℕ → ℕ = λ start. if has_control row then 0 else cols - 1 - (start + settled_column cols before (at_end row)) % cols in
+    option_map_or room (prompt_column cols before) 0
 
 -- as many clusters, from the first one on, as fit into the columns, up to a control character
 abbrev pub fitting_clusters : ℕ → List (List ℕ) → List ℕ
@@ -55,6 +48,8 @@ abbrev pub styled_if_some : CellAttributes → List ℕ → List ElementView
 styled_if_some style [] = []
 styled_if_some style (byte ∷ bytes) = styled_text style (byte ∷ bytes)
 
--- a text after a line on a screen
+-- a text after a line on a screen, in the last row of the line
 abbrev pub after_line_on : PromptScreenView → Option (List ℕ) → List ℕ → CellAttributes → List ℕ → List ElementView
-after_line_on screen rows line style text = styled_if_some style (shortened_to (room_on screen rows line) text)
+after_line_on screen rows line style text =
+    let (before, row) = last_shown screen rows line in
+    styled_if_some style (shortened_to (room_after screen.cols before row) text)

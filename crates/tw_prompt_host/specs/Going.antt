@@ -1,5 +1,6 @@
 -- The state of the line that is read.
-use Rattle.std.specs.Prelude.{◌&&◌, Bool, true, false, codes, Option, Some, None, unwrap_or}
+use Rattle.std.specs.Prelude.{◌&&◌, ◌||◌, Bool, true, false, codes, Option, Some, None, unwrap_or}
+use Rattle.std.specs.Option.{is_none}
 use Rattle.tw_input.specs.declared.key.KeyEvent.{KeyEvent}
 use Rattle.tw_input.specs.EventView.{EventView}
 use Rattle.tw_input.specs.Modifiers.{ctrl}
@@ -9,9 +10,8 @@ use Rattle.tw_host.specs.KeyTable.{key_press, letter}
 use Rattle.tw_key_parts.specs.Keys.{is_key}
 use Rattle.tw_key_parts.specs.Ring.{is_same_cut}
 use Rattle.tw_key_parts.specs.SearchWatch.{searches_after}
-use Rattle.tw_prompt_host.specs.MenuState.{MenuView, Closed, menu_behind}
+use Rattle.tw_prompt_host.specs.MenuState.{MenuView, Closed, menu_after}
 use Rattle.tw_prompt_host.specs.MenuView.{menu_view}
-use Rattle.tw_prompt_host.specs.Validation.{is_idle}
 use Rattle.tw_prompt_host.specs.declared.going.Going.{Going}
 
 -- gives a search up
@@ -60,11 +60,6 @@ abbrev pub comes_back_after : Bool → Bool → Option Cut → Option Cut
 comes_back_after true false before = before
 comes_back_after given_up searches before = None
 
--- whether a line stays kept: an action that was kept back keeps it, and another one ends that
-abbrev pub stays_kept : Bool → Option ActionView → Bool → Bool
-stays_kept true action kept = true
-stays_kept false action kept = kept && is_idle action
-
 -- whether an action ends the line
 abbrev pub is_last : Option ActionView → Bool
 is_last (Some AcceptLine) = true
@@ -83,7 +78,8 @@ pub record Came : Type 0 where
   pub fails : Bool
   pub turn : Option MenuView
 
--- all of it after an event, in a history that has lines or none
+-- all of it after an event, in a history that has lines or none: an action that was kept back keeps the line, and
+-- another one ends that
 abbrev pub going_after : Bool → Came → GoingView → GoingView
 going_after lines came going =
     let searches = searches_after lines came.action going.searching in
@@ -92,7 +88,7 @@ going_after lines came going =
       fails = came.fails;
       before_search = before_search_after going.searching searches came.before going.before_search;
       comes_back = comes_back_after (is_key give_up_key came.event) searches going.before_search;
-      kept = stays_kept came.back came.action going.kept;
+      kept = came.back || (going.kept && is_none came.action);
       over = is_last came.action;
-      menu = menu_behind came.turn (is_same_cut came.before came.after) came.action going.menu;
+      menu = unwrap_or came.turn (menu_after (is_same_cut came.before came.after) came.action going.menu);
     }

@@ -15,10 +15,6 @@ use Rattle.tw_surface.specs.declared.cell.Intensity.TheVariants.{Half}
 use Rattle.tw_prompt_host.specs.declared.hint.Hints.{Hints}
 use Rattle.tw_prompt_host.specs.declared.hint.Hints.TheVariants.{Off, Under, After}
 
--- what stands in a line after a text that it begins with
-abbrev pub rest_behind : List ℕ → List ℕ → Option (List ℕ)
-rest_behind text line = if starts_with eqb line text then Some (drop (length text) line) else None
-
 -- whether a line begins with a text and is longer
 abbrev pub is_longer : List ℕ → List ℕ → Bool
 is_longer text line = starts_with eqb line text && nat_lt (length text) (length line)
@@ -68,8 +64,7 @@ dim_hints = After (record default_attributes { intensity = Half })
 -- whether there are hints
 abbrev pub are_on : Hints → Bool
 are_on Off = false
-are_on Under = true
-are_on (After style) = true
+are_on _ = true
 
 -- the hint under the line, if hints stand there
 abbrev pub hint_if_under : Hints → Option (List ℕ) → Option (List ℕ)

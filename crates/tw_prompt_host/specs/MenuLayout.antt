@@ -1,5 +1,5 @@
 -- How a menu lies under the line: candidates in columns, one of them marked.
-use Rattle.std.specs.Prelude.{ℕ, zero, suc, ◌+◌, ◌-◌, ◌*◌, ◌/◌, ◌%◌, ◌==◌, Bool, true, false, List, [], ◌∷◌, ◌++◌, length, get_or, map, codes, max, min, replicate, if◌then◌else◌}
+use Rattle.std.specs.Prelude.{ℕ, zero, suc, ◌+◌, ◌-◌, ◌*◌, ◌/◌, ◌%◌, ◌==◌, Bool, true, List, [], ◌∷◌, ◌++◌, length, get_or, map, codes, max, min, replicate, if◌then◌else◌}
 use Rattle.std.specs.Fmt.{decimal}
 use Rattle.std.specs.List.{fold}
 use Rattle.tw_surface.specs.Defaults.{default_attributes}
@@ -33,10 +33,6 @@ row_len cols width = max (cols / (width + 2)) 1
 abbrev pub page_len : ℕ → ℕ → ℕ → ℕ
 page_len in_row rows count = min (in_row * max rows 1) count
 
--- the first one on the page of one of them
-abbrev pub page_start : ℕ → ℕ → ℕ
-page_start page chosen = chosen - chosen % page
-
 -- a text, filled up with spaces to `width` columns
 abbrev pub filled_cell : ℕ → List ℕ → List ℕ
 filled_cell width text = text ++ replicate (width - column_width text) 32
@@ -45,14 +41,9 @@ filled_cell width text = text ++ replicate (width - column_width text) 32
 abbrev pub gap : ℕ → ℕ → ℕ → List ℕ
 gap in_row start at = if at == start then [] else if at % in_row == 0 then 13 ∷ 10 ∷ [] else codes "  "
 
--- a text in attributes of its own if it is the chosen one
-abbrev pub marked_if : Bool → MenuStyle → List ℕ → List ElementView
-marked_if true style text = styled_text style.chosen text
-marked_if false style text = Text text ∷ []
-
--- a cell after what stands before it
+-- a cell after what stands before it, in attributes of its own if it is the chosen one
 abbrev pub menu_cell : MenuStyle → List ℕ → Bool → List ℕ → List ElementView
-menu_cell style before is_chosen text = Text before ∷ marked_if is_chosen style text
+menu_cell style before is_chosen text = Text before ∷ (if is_chosen then styled_text style.chosen text else Text text ∷ [])
 
 -- the texts of candidates
 abbrev pub menu_texts : List CandidateView → List (List ℕ)
@@ -79,6 +70,6 @@ abbrev pub menu_page : MenuStyle → List CandidateView → ℕ → List Element
 menu_page style candidates chosen =
     let texts = menu_texts candidates in
     let page = page_len (row_len style.cols (widest texts)) style.rows (length texts) in
-    let start = page_start page chosen in
+    let start = chosen - chosen % page in
     let count = min page (length texts - start) in
     cells_from (page_cell style texts start chosen) start count ++ more_row (length texts - count)

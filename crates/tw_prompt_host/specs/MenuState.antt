@@ -79,8 +79,3 @@ menu_after same (Some NoAction) m = open_if same m
 menu_after same (Some Repaint) m = open_if same m
 menu_after same None m = open_if same m
 menu_after same (Some _) m = Closed
-
--- the menu after an event, which may turn it
-abbrev pub menu_behind : Option MenuView → Bool → Option ActionView → MenuView → MenuView
-menu_behind (Some turn) same action m = turn
-menu_behind None same action m = menu_after same action m

@@ -1,5 +1,5 @@
 -- What a menu shows and offers.
-use Rattle.std.specs.Prelude.{◌&&◌, Bool, true, false, not, List, map, take, drop, Option, Some, None, if◌then◌else◌}
+use Rattle.std.specs.Prelude.{◌&&◌, Bool, true, false, not, List, map, take, drop, Option, Some, None}
 use Rattle.tw_line.specs.Cut.{Cut}
 use Rattle.tw_host.specs.ActionView.{ActionView}
 use Rattle.tw_host.specs.CandidateView.{CandidateView, candidate_view}
@@ -26,10 +26,8 @@ is_menu_open _ = false
 
 -- the page of an open menu, or else the other host's elements
 abbrev pub page_or : MenuStyle → MenuView → List ElementView → List ElementView
-page_or style Closed elements = elements
-page_or style Unseen elements = elements
-page_or style (Few candidates) elements = elements
 page_or style (Open m) elements = menu_page style m.candidates m.chosen
+page_or style _ elements = elements
 
 -- the candidate that is chosen, by itself
 abbrev pub chosen_of : Shown → List CandidateView
@@ -37,10 +35,9 @@ chosen_of m = take 1 (drop m.chosen m.candidates)
 
 -- what the editor completes with: the candidate that is chosen, those that are known, or else these
 abbrev pub offered : MenuView → List CandidateView → List CandidateView
-offered Closed candidates = candidates
-offered Unseen candidates = candidates
 offered (Few few) candidates = few
 offered (Open m) candidates = chosen_of m
+offered _ candidates = candidates
 
 -- no completion goes on
 abbrev pub is_still : MenuView → Bool
@@ -51,10 +48,6 @@ is_still _ = false
 -- a completion of the key table begins, but not during a search
 abbrev pub asks : Bool → MenuView → Option ActionView → Bool
 asks searching menu action = not searching && (is_still menu && is_completing action)
-
--- candidates are known where one begins
-abbrev pub known : Bool → MenuView → Option ActionView → List CandidateView → Option (List CandidateView)
-known searching menu action candidates = if asks searching menu action then Some candidates else None
 
 -- an event turns the menu unless it has an action or an edit of its own
 abbrev pub turn_unless : {E : Type 0} → Option ActionView → Option E → Option MenuView → Option MenuView

@@ -1,7 +1,6 @@
 -- What a line with brackets and quotations lacks.
 use Rattle.std.specs.Prelude.{ℕ, List, ◌++◌, Option, Some, option_map, codes, encode_utf8}
-use Rattle.tw_prompt_host.specs.Nesting.{NestingView, Open, Wrong, innermost, nesting_of}
-use Rattle.tw_prompt_host.specs.declared.marks.MarkPair.{MarkPair}
+use Rattle.tw_prompt_host.specs.Nesting.{NestingView, Open, Wrong, innermost}
 
 -- a text after a mark
 abbrev pub marked_text : ℕ → List ℕ → List ℕ
@@ -11,7 +10,3 @@ marked_text mark text = encode_utf8 mark ++ text
 abbrev pub lack_of : NestingView → Option (List ℕ)
 lack_of (Open opens) = option_map (λ last. marked_text last.pair.opening (codes " is open")) (innermost opens)
 lack_of (Wrong mark at) = Some (marked_text mark (codes " closes nothing"))
-
--- what a line lacks by these pairs
-abbrev pub nested_lack : List MarkPair → List ℕ → Option (List ℕ)
-nested_lack pairs line = lack_of (nesting_of pairs line)

@@ -1,5 +1,5 @@
 -- A prompt: a host with a history, completers, keys, hints, a validator, a menu and a screen.
-use Rattle.std.specs.Prelude.{ℕ, ◌==◌, ◌&&◌, ◌||◌, Bool, true, false, not, List, [], ◌++◌, length, Option, Some, None, option_map, unwrap_or, if◌then◌else◌}
+use Rattle.std.specs.Prelude.{ℕ, ◌==◌, ◌&&◌, ◌||◌, Bool, true, false, not, List, [], ◌++◌, codes, length, Option, Some, None, option_map, unwrap_or, if◌then◌else◌}
 use Rattle.std.specs.Option.{is_none}
 use Rattle.tw_surface.specs.Characters.{lf}
 use Rattle.tw_surface.specs.Defaults.{default_attributes}
@@ -9,7 +9,7 @@ use Rattle.tw_line.specs.declared.movements.Movement.TheVariants as movement
 use Rattle.tw_host.specs.ActionView.{ActionView, Complete, InsertChar, InsertText, Move, NoAction}
 use Rattle.tw_host.specs.CandidateView.{CandidateView}
 use Rattle.tw_host.specs.ElementView.{ElementView}
-use Rattle.tw_host.specs.HostRules.{Highlight, HostRules, Resolution, or_default}
+use Rattle.tw_host.specs.HostRules.{HostRules, Resolution, or_default}
 use Rattle.tw_host.specs.KeyTable.{action_of}
 use Rattle.tw_hosts.specs.SettledRules.{PromptScreenView, screen_after}
 use Rattle.tw_completion_parts.specs.Completers.{ContextCompleterView, context_candidates}
@@ -21,12 +21,12 @@ use Rattle.tw_key_parts.specs.SearchWatch.{has_lines}
 use Rattle.tw_prompt_host.specs.Going.{Came, GoingView, give_up_key, going_after, event_line}
 use Rattle.tw_prompt_host.specs.Hint.{are_on, hint_if_under, hint_of, hint_taken_by, shown_under}
 use Rattle.tw_prompt_host.specs.AfterLine.{after_line_on}
-use Rattle.tw_prompt_host.specs.FailingSearch.{failing_text, fails_after, is_failing}
+use Rattle.tw_prompt_host.specs.FailingSearch.{fails_after, is_failing}
 use Rattle.tw_prompt_host.specs.MenuLayout.{style_after}
 use Rattle.tw_prompt_host.specs.MenuState.{MenuView, menu_begun, turned}
-use Rattle.tw_prompt_host.specs.MenuView.{is_menu_open, known, offered, page_or, turn_line, turn_unless}
+use Rattle.tw_prompt_host.specs.MenuView.{asks, is_menu_open, offered, page_or, turn_line, turn_unless}
 use Rattle.tw_prompt_host.specs.Rows.{are_shown, highlight_on}
-use Rattle.tw_prompt_host.specs.Validation.{is_accepting, keeps_line, shown_lack}
+use Rattle.tw_prompt_host.specs.Validation.{is_accepting, shown_lack}
 use Rattle.tw_prompt_host.specs.declared.hint.Hints.{Hints}
 use Rattle.tw_prompt_host.specs.declared.hint.Hints.TheVariants.{After}
 use Rattle.tw_prompt_host.specs.declared.layout.MenuStyle.{MenuStyle}
@@ -57,14 +57,10 @@ pub record Answer (K : Type 0) : Type 0 where
   pub kept : Option K
 
 module _ {K : Type 0} where
-  -- an edit of the keys
-  abbrev pub of_keys : Edited K → Edited (Option K)
-  of_keys edit = record { cut = edit.cut; action = edit.action; kept = Some edit.kept }
-
   -- a hint that is taken, or else the edit of the keys
   abbrev pub hint_or : Cut → Option (List ℕ) → Option (Edited K) → Option (Edited (Option K))
   hint_or cut (Some rest) edit = Some (record { cut = Some cut; action = InsertText 1 rest; kept = None })
-  hint_or cut None edit = option_map of_keys edit
+  hint_or cut None edit = option_map (λ (edit : Edited K). record { cut = edit.cut; action = edit.action; kept = Some edit.kept }) edit
 
   -- an edit, or else the completion of a line
   abbrev pub completing : Option (Edited (Option K)) → Option Cut → Option (Edited (Option K))
@@ -84,37 +80,14 @@ module _ {K : Type 0} where
   answered None None cut = record { cut = cut; action = None; kept = None }
 
 -- an action that would accept a line that is kept: it begins a row, or does nothing
-abbrev pub instead : Bool → ActionView
-instead true = InsertChar 1 lf
-instead false = NoAction
-
 abbrev pub said : Bool → Bool → Option ActionView → Option ActionView
-said true opens action = Some (instead opens)
+said true opens action = Some (if opens then InsertChar 1 lf else NoAction)
 said false opens action = action
-
--- a prompt says that a search fails: accepting its line was held back, or nothing is answered and it fails by the key
--- table
-abbrev pub says_failing : Bool → Option ActionView → Bool → Bool
-says_failing back action fails = back || (is_none action && fails)
-
--- what completers offer, or else these
-abbrev pub completed_or : Option (List CandidateView) → List CandidateView → List CandidateView
-completed_or (Some candidates) others = candidates
-completed_or None others = others
-
--- that a search fails, after the line
-abbrev pub failing_if : Bool → PromptScreenView → Option (List ℕ) → List ℕ → List ElementView
-failing_if true screen rows line = after_line_on screen rows line default_attributes failing_text
-failing_if false screen rows line = []
 
 -- a hint after a line, if hints stand there
 abbrev pub hint_if_after : Hints → PromptScreenView → Option (List ℕ) → List ℕ → Option (List ℕ) → List ElementView
 hint_if_after (After style) screen rows line (Some rest) = after_line_on screen rows line style rest
 hint_if_after _ screen rows line _ = []
-
--- a line with more elements after it
-abbrev pub with_more : Highlight → List ElementView → Highlight
-with_more shown more = record shown { elements = shown.elements ++ more }
 
 module _ {V S K : Type 0} (keys : KeyRules S K) (rules : HostRules V) where
   -- the hint under a line
@@ -128,43 +101,35 @@ module _ {V S K : Type 0} (keys : KeyRules S K) (rules : HostRules V) where
   -- what stands after the line: in a search that it fails, and else the hint
   abbrev pub after_line : Prompted V S → Cut → List ElementView
   after_line v cut =
-      if v.going.searching then failing_if v.going.fails v.screen v.rows cut.line
+      if v.going.searching
+      then if v.going.fails then after_line_on v.screen v.rows cut.line default_attributes (codes "  failing: no line has it") else []
       else if is_hinted v cut then hint_if_after v.hints v.screen v.rows cut.line (hint_of v.lent cut.line) else []
 
-  -- the hint that an event takes
-  abbrev pub hint_at : Prompted V S → EventView → Cut → Option (List ℕ)
-  hint_at v event cut = if are_on v.hints then hint_taken_by v.lent v.going.searching (action_of event) cut else None
-
-  -- the candidates, but for the menu
+  -- the candidates, but for the menu: what completers offer, or else the host's
   abbrev pub found : Prompted V S → Cut → List CandidateView
-  found v cut = beginning_first (completed_or (context_candidates v.completers v.listings cut) (rules.candidates v.host cut))
+  found v cut = beginning_first (unwrap_or (context_candidates v.completers v.listings cut) (rules.candidates v.host cut))
 
-  -- those with which a completion would begin at an event
-  abbrev pub known_at : Prompted V S → EventView → Cut → Option (List CandidateView)
-  known_at v event cut = known v.going.searching v.going.menu (action_of event) (found v cut)
-
-  -- where an event turns the menu
+  -- where an event turns the menu; a completion begins with the candidates
   abbrev pub turn_at : Prompted V S → EventView → Cut → Option MenuView
   turn_at v event cut =
-      turned (option_map (λ candidates. menu_begun candidates cut) (known_at v event cut)) event (action_of event) v.going.menu
+      let known = if asks v.going.searching v.going.menu (action_of event) then Some (found v cut) else None in
+      turned (option_map (λ candidates. menu_begun candidates cut) known) event (action_of event) v.going.menu
 
   -- the edit that an event has without the menu: a search is left, a hint is taken, or that of the parts
   abbrev pub edit_at : Prompted V S → EventView → Cut → Option (Edited (Option K))
   edit_at v event cut =
+      let hint = if are_on v.hints then hint_taken_by v.lent v.going.searching (action_of event) cut else None in
       leaving (v.going.searching && is_key give_up_key event)
-      (hint_or cut (hint_at v event cut) (keys.edits v.keys (record { event = event; searching = v.going.searching; lines = v.lines; cut = cut })))
+      (hint_or cut hint (keys.edits v.keys (record { event = event; searching = v.going.searching; lines = v.lines; cut = cut })))
 
-  -- a line is not to be accepted; during a search it is the pattern
+  -- a line that lacks something is not to be accepted, and during a search a pattern that fails
   abbrev pub is_kept : Prompted V S → List ℕ → Bool
-  is_kept v line = keeps_line v.going.searching (v.stops_failing_searches && is_failing v.lines line) (v.lacks line)
+  is_kept v line =
+      if v.going.searching then v.stops_failing_searches && is_failing v.lines line else not (is_none (v.lacks line))
 
   -- in its place a row begins, if the line is shown in rows and the editor does not search
   abbrev pub opens_row : Prompted V S → Bool
   opens_row v = are_shown v.rows && not v.going.searching
-
-  -- an answer would accept it
-  abbrev pub is_back : Prompted V S → EventView → Cut → Option ActionView → Bool
-  is_back v event cut action = is_kept v cut.line && is_accepting (or_default action event)
 
   -- a search would fail after the key table's action
   abbrev pub fails_by_key : Prompted V S → EventView → Cut → Bool
@@ -184,13 +149,14 @@ module _ {V S K : Type 0} (keys : KeyRules S K) (rules : HostRules V) where
     action = action;
   }
 
-  -- an answer is done, or held back; `fails` is whether a search would fail by the key table
+  -- an answer is done, or held back; `fails` is whether a search would fail by the key table, and then or where accepting
+  -- is held back the prompt says that it fails
   abbrev pub judged : Prompted V S → EventView → Cut → V → Answer K → Option MenuView → Bool → Bool → Resolution (Prompted V S)
   judged v event cut value answer turn back fails =
       let action = said back (opens_row v) answer.action in
       let held = back && not (opens_row v) in
       followed v value answer.kept
-      (record { event = event; before = cut; after = answer.cut; action = or_default action event; back = held; fails = says_failing held action fails; turn = turn }) action
+      (record { event = event; before = cut; after = answer.cut; action = or_default action event; back = held; fails = held || (is_none action && fails); turn = turn }) action
 
   -- what is answered to an event at a line: the host goes first, and then the edit, which a completion is too
   abbrev pub event_answer : Prompted V S → EventView → Cut → Answer K
@@ -201,18 +167,20 @@ module _ {V S K : Type 0} (keys : KeyRules S K) (rules : HostRules V) where
   abbrev pub turn_taken_at : Prompted V S → EventView → Cut → Option MenuView
   turn_taken_at v event cut = turn_unless (rules.resolve v.host event cut).action (edit_at v event cut) (turn_at v event cut)
 
-  -- an event at a line
+  -- an event at a line; an answer is held back that would accept a line that is kept
   abbrev pub resolved_at : Prompted V S → EventView → Cut → Resolution (Prompted V S)
   resolved_at v event cut =
       let answer = event_answer v event cut in
-      judged v event cut (rules.resolve v.host event cut).value answer (turn_taken_at v event cut) (is_back v event cut answer.action) (fails_by_key v event cut)
+      let back = is_kept v cut.line && is_accepting (or_default answer.action event) in
+      judged v event cut (rules.resolve v.host event cut).value answer (turn_taken_at v event cut) back (fails_by_key v event cut)
 
   abbrev pub prompt_rules : HostRules (Prompted V S)
   prompt_rules = record {
     lines = λ v. v.lines;
     prompt = λ v text. rules.prompt v.host text;
     preview = λ v line. page_or v.style v.going.menu (shown_lack v.going.kept (v.lacks line) (shown_under (rules.preview v.host line) (hint_under v line)));
-    highlight = λ v cut. with_more (highlight_on v.screen v.rows cut (rules.highlight v.host cut)) (after_line v cut);
+    highlight = λ v cut. let shown = highlight_on v.screen v.rows cut (rules.highlight v.host cut) in
+        record { elements = shown.elements ++ after_line v cut; column = shown.column };
     candidates = λ v cut. offered v.going.menu (found v cut);
     resolve = λ v event cut. resolved_at v event (event_line v.going cut);
   }

@@ -7,7 +7,7 @@ ghost use Rattle.tw_host.specs.KeyTable.{action_of};
 ghost use Rattle.tw_input.specs.EventView.{event_view};
 ghost use Rattle.tw_key_parts.specs.EditView.{edit_view, lent_action};
 ghost use Rattle.tw_prompt_host.specs.MenuView.{menu_view, turn_unless, turn_view};
-ghost use Rattle.tw_prompt_host.specs.PromptRules.{answered, completing, says_failing, said};
+ghost use Rattle.tw_prompt_host.specs.PromptRules.{answered, completing, said};
 ghost use Rattle.tw_prompt_host.specs.Validation.{is_accepting};
 
 use crate::menu::{Menu, Turn};
@@ -94,10 +94,7 @@ pub fn done<'a>(
     requires { lent_action default ≡ action_of (event_view _event.now) }
     ensures { lent_action result ≡ or_default (lent_action action.entry) (event_view _event.now) }
 {
-    match action {
-        Some(action) => Some(action),
-        None => default,
-    }
+    action.or(default)
 }
 
 /// Replaces an action, or else the key table's, that would accept a line which is kept: it begins a row, or does
@@ -123,12 +120,4 @@ pub fn judged(
         (true, false) => (true, Some(Action::NoAction)),
         (false, _) => (false, action),
     }
-}
-
-/// Returns true if the prompt says that a search fails: accepting the line was held back, or nothing was answered and
-/// it fails by the key table's action.
-pub fn says_failing(back: bool, action: Option<&Action>, fails: bool) -> bool
-    ensures { result ≡ says_failing back (lent_action action.entry) fails }
-{
-    back || (action.is_none() && fails)
 }

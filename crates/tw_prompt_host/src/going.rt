@@ -5,7 +5,7 @@ ghost use Rattle.tw_input.specs.EventView.{event_view};
 ghost use Rattle.tw_key_parts.specs.EditView.{lent_action};
 ghost use Rattle.tw_key_parts.specs.Keys.{is_key};
 ghost use Rattle.tw_key_parts.specs.SearchWatch.{searches_after};
-ghost use Rattle.tw_prompt_host.specs.Going.{going_at_rest, before_search_after, comes_back_after, give_up_key, going_after, going_view, is_last, stays_kept};
+ghost use Rattle.tw_prompt_host.specs.Going.{going_at_rest, before_search_after, comes_back_after, give_up_key, going_after, going_view, is_last};
 ghost use Rattle.tw_prompt_host.specs.MenuView.{asks, menu_view, turn_view};
 
 use crate::menu::{Menu, Turn};
@@ -44,13 +44,6 @@ pub fn gives_up(event: &InputEvent) -> bool
     ensures { result ≡ is_key give_up_key (event_view event.now) }
 {
     is_key(GIVE_UP, event)
-}
-
-/// Returns true if the line was not accepted, now or before.
-fn stays_kept(back: bool, action: Option<&Action>, kept: bool) -> bool
-    ensures { result ≡ stays_kept back (lent_action action.entry) kept }
-{
-    back || (kept && action.is_none())
 }
 
 /// Returns true for an action that ends the line.
@@ -135,7 +128,7 @@ impl Going {
         }) (going_view self.old) }
     {
         self.menu.follow(turn, &before, after, action);
-        self.kept = stays_kept(back, action, self.kept);
+        self.kept = back || (self.kept && action.is_none());
         self.over = is_last(action);
         self.fails = fails;
         let searches = searches_after(lines, action, self.searching);

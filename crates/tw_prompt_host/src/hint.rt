@@ -2,7 +2,7 @@
 
 ghost use Rattle.std.specs.Prelude.{◌≡◌, option_map};
 ghost use Rattle.tw_key_parts.specs.EditView.{lent_action};
-ghost use Rattle.tw_prompt_host.specs.Hint.{are_on, continuation_of, dim_hints, hint_of, is_taking, newest_rest, part_taken, rest_behind, word_of};
+ghost use Rattle.tw_prompt_host.specs.Hint.{are_on, continuation_of, dim_hints, hint_of, is_taking, newest_rest, part_taken, word_of};
 
 use tw_host::Action;
 use tw_hosts::split_first_word;
@@ -39,22 +39,12 @@ impl Hints {
     }
 }
 
-/// Returns the rest of a line that begins with a text.
-#[tactic(auto, using(crate::proofs::HintLemmas::strip_text))]
-fn behind<'line>(text: &str, line: &'line str) -> Option<&'line str>
-    ensures { option_map (λ rest. rest.now) result ≡ rest_behind text.now line.now }
-{
-    line.strip_prefix(text)
-}
-
 /// Returns the rest of a line that begins with a text, unless it is empty.
+#[tactic(auto, using(crate::proofs::HintLemmas::strip_text))]
 fn continuation_of<'line>(text: &str, line: &'line str) -> Option<&'line str>
     ensures { option_map (λ rest. rest.now) result ≡ continuation_of text.now line.now }
 {
-    match behind(text, line) {
-        Some(rest) if !rest.is_empty() => Some(rest),
-        _ => None,
-    }
+    line.strip_prefix(text).filter(|rest| !rest.is_empty())
 }
 
 /// Returns the rest of the newest longer line that begins with a text.

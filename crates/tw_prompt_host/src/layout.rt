@@ -58,10 +58,7 @@ fn row_len(cols: usize, width: usize) -> usize
     ensures value { result ≡ row_len cols width }
     ensures some { 0 < result }
 {
-    match width.checked_add(2) {
-        Some(pitch) => (cols / pitch).max(1),
-        None => 1,
-    }
+    (cols / width.saturating_add(2)).max(1)
 }
 
 /// Returns the number of candidates on a page.

@@ -1,7 +1,7 @@
 //! The marks of a language.
 
 ghost use Rattle.std.specs.Prelude.{◌≡◌, IfOk};
-ghost use Rattle.tw_prompt_host.specs.Marks.{brackets, closes, common_pairs, escape_pair, escapes, is_closing, is_letter_or_space, mark_no_letter, opened_pair, quotation};
+ghost use Rattle.tw_prompt_host.specs.Marks.{brackets, closes, common_pairs, escape_pair, is_closing, is_letter_or_space, mark_no_letter, opened_pair, quotation};
 
 use std::alloc::{AllocError, Global};
 
@@ -96,16 +96,6 @@ pub fn escape_pair(escape: char) -> MarkPair
         opening: escape,
         closing: escape,
         kind: MarkKind::Escape,
-    }
-}
-
-/// Returns true if a character is the escape character.
-pub fn escapes(escape: Option<char>, c: char) -> bool
-    ensures { result ≡ escapes escape c }
-{
-    match escape {
-        Some(escape) => escape == c,
-        None => false,
     }
 }
 

@@ -1,12 +1,12 @@
 //! The menu of a completion.
 
-ghost use Rattle.std.specs.Prelude.{◌≡◌, None, map, option_map, IfOk};
+ghost use Rattle.std.specs.Prelude.{◌≡◌, None, map, option_map, unwrap_or, IfOk};
 ghost use Rattle.tw_host.specs.CandidateView.{candidate_view};
 ghost use Rattle.tw_input.specs.EventView.{event_view};
 ghost use Rattle.tw_key_parts.specs.EditView.{lent_action};
 ghost use Rattle.tw_key_parts.specs.Ring.{is_same_cut};
 ghost use Rattle.tw_prompt_host.specs.MenuView.{chosen_of, is_menu_open, menu_view, turn_line, turn_view};
-ghost use Rattle.tw_prompt_host.specs.MenuState.{menu_after, menu_begun, menu_behind, menu_stepped, chosen_next, chosen_previous, stepped, turned};
+ghost use Rattle.tw_prompt_host.specs.MenuState.{menu_after, menu_begun, menu_stepped, chosen_next, chosen_previous, stepped, turned};
 
 use std::alloc::{AllocError, Global};
 use std::marker::Model;
@@ -192,8 +192,9 @@ impl Menu {
         action: Option<&Action>,
     )
         ensures { menu_view self.new
-            ≡ menu_behind (option_map (turn_view (menu_view self.old)) turn)
-            (is_same_cut before.now after.now) (lent_action action.entry) (menu_view self.old) }
+            ≡ unwrap_or (option_map (turn_view (menu_view self.old)) turn)
+            (menu_after (is_same_cut before.now after.now) (lent_action action.entry)
+            (menu_view self.old)) }
     {
         match turn {
             Some(Turn::Next) => self.step(false),

@@ -1,8 +1,8 @@
 //! Lines whose brackets and quotations are whole.
 
 ghost use Rattle.std.specs.Prelude.{◌≡◌, IfOk, option_map, string_bytes};
-ghost use Rattle.tw_prompt_host.specs.Nesting.{nesting_view};
-ghost use Rattle.tw_prompt_host.specs.NestedLines.{lack_of, marked_text, nested_lack};
+ghost use Rattle.tw_prompt_host.specs.Nesting.{nesting_of, nesting_view};
+ghost use Rattle.tw_prompt_host.specs.NestedLines.{lack_of, marked_text};
 
 use crate::marks::MarkPair;
 use crate::nesting::{Nesting, nesting_in};
@@ -41,7 +41,7 @@ fn lack_of(alloc: Global, nesting: Nesting) -> Result<Option<String>, AllocError
 }
 
 impl Validator for NestedLines {
-    ghost lacks = { λ it line. nested_lack it.pairs.items line };
+    ghost lacks = { λ it line. lack_of (nesting_of it.pairs.items line) };
 
     fn lack(&self, alloc: Global, line: &str) -> Result<Option<String>, AllocError> {
         lack_of(alloc, nesting_in(alloc, self.pairs.as_slice(), line)?)

@@ -5,8 +5,8 @@ ghost use Rattle.tw_prompt_host.specs.Marks.{mark_no_letter};
 ghost use Rattle.tw_prompt_host.specs.Nesting.{after_character, after_text, closed_mark, innermost, nesting_of, nesting_view, opens_behind, where_right};
 
 use crate::marks::{
-    MarkKind, MarkPair, OpenMark, escape_pair, escapes, is_closing, is_letter_or_space,
-    mark_no_letter, opened_pair,
+    MarkKind, MarkPair, OpenMark, escape_pair, is_closing, is_letter_or_space, mark_no_letter,
+    opened_pair,
 };
 use std::alloc::{AllocError, Global};
 
@@ -62,7 +62,7 @@ fn take_text(
     match kind {
         MarkKind::Brackets => take_opening(pairs, letters, opens, at, c),
         MarkKind::Quotation { escape } => {
-            if escapes(escape, c) {
+            if escape == Some(c) {
                 opens.push(OpenMark {
                     pair: escape_pair(c),
                     at,
@@ -123,8 +123,5 @@ pub fn closed_mark(
     let Nesting::Open(opens) = nesting_in(alloc, pairs, text)? else {
         return Ok(None);
     };
-    match opens.last().copied() {
-        Some(open) if open.pair.closes(c) => Ok(Some(open)),
-        _ => Ok(None),
-    }
+    Ok(opens.last().copied().filter(|open| open.pair.closes(c)))
 }

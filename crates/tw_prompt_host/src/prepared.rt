@@ -113,14 +113,6 @@ impl PreparedHost {
             history: BasicHistory::new(alloc),
         }
     }
-
-    /// Returns true if candidates are prepared for a line with its cursor.
-    fn is_asked(&self, line: &str, cursor: usize) -> bool
-        ensures { result
-            ≡ is_same_cut (record { line = line.now; cursor = cursor }) self.now.asked }
-    {
-        line == self.asked.get_line() && cursor == self.asked.get_cursor()
-    }
 }
 
 impl LineEditorHost for PreparedHost {
@@ -185,7 +177,7 @@ impl LineEditorHost for PreparedHost {
         line: &str,
         cursor_position: usize,
     ) -> Result<Vec<CompletionCandidate>, AllocError> {
-        if self.is_asked(line, cursor_position) {
+        if line == self.asked.get_line() && cursor_position == self.asked.get_cursor() {
             copy_candidates(alloc, &self.candidates)
         } else {
             Ok(Vec::new(alloc))

@@ -19,11 +19,11 @@ ghost use Rattle.tw_prompt_host.specs.Hint.{are_on, hint_taken_by};
 ghost use Rattle.tw_prompt_host.specs.FailingSearch.{fails_after, is_failing};
 ghost use Rattle.tw_prompt_host.specs.MenuLayout.{style_after};
 ghost use Rattle.tw_prompt_host.specs.MenuView.{menu_view, turn_line, turn_unless, turn_view};
-ghost use Rattle.tw_prompt_host.specs.PromptRules.{Prompted, after_line, event_answer, answered, completing, edit_at, followed, found, hint_under, is_kept, says_failing, judged, leaving, opens_row, prompt_rules, said, turn_at, turn_taken_at};
+ghost use Rattle.tw_prompt_host.specs.PromptRules.{Prompted, after_line, event_answer, answered, completing, edit_at, followed, found, hint_under, is_kept, judged, leaving, opens_row, prompt_rules, said, turn_at, turn_taken_at};
 ghost use Rattle.tw_prompt_host.specs.Rows.{rows_view};
 ghost use Rattle.tw_prompt_host.specs.Validation.{is_accepting};
 
-use crate::answers::{answered, completing, done, judged, says_failing, turn_unless};
+use crate::answers::{answered, completing, done, judged, turn_unless};
 use crate::failing::{fails_after, is_failing};
 use crate::going::{Going, gives_up};
 use crate::hint::{Hints, history_hint, is_taking, part_taken};
@@ -154,10 +154,8 @@ impl<H: LineEditorHost, L: History + LentLines, K: KeyPart, V: Validator> Prompt
     ) -> Result<LineEditBuffer, AllocError>
         ensures { IfOk result (λ line. line ≡ event_line (going_view self.now.going) editor.now) }
     {
-        match &self.going.comes_back {
-            Some(line) => line.try_clone(alloc),
-            None => editor.try_clone(alloc),
-        }
+        let line = self.going.comes_back.as_ref().unwrap_or(editor);
+        line.try_clone(alloc)
     }
 
     /// Returns the edit of an event without the menu: a search is left, a hint is taken, or that of the parts.
@@ -399,7 +397,7 @@ impl<H: LineEditorHost, L: History + LentLines, K: KeyPart, V: Validator> Prompt
         let (action, note, turn) = answer;
         let opens = self.opens_row();
         let (back, action) = judged(keeps, opens, event, action, default.as_ref());
-        let fails = says_failing(back, action.as_ref(), fails);
+        let fails = back || (action.is_none() && fails);
         let done = done(event, action.as_ref(), default.as_ref());
         self.follow(alloc, note, event, before, after, done, back, fails, turn);
         action

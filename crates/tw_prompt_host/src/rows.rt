@@ -3,13 +3,13 @@
 ghost use Rattle.std.specs.Prelude.{◌≡◌, IfOk, OnOk, IsCharBoundary, map, string_bytes, unwrap_or};
 ghost use Rattle.tw_surface.specs.Attributes.{with_attribute};
 ghost use Rattle.tw_surface.specs.Defaults.{default_attributes};
-ghost use Rattle.tw_host.specs.ElementView.{element_view, Text};
+ghost use Rattle.tw_host.specs.ElementView.{element_view};
 ghost use Rattle.tw_hosts.specs.SettledRules.{screen_view};
 ghost use Rattle.tw_line.specs.Cut.{cut_at};
 ghost use Rattle.tw_prompt_host.specs.Rows.{are_shown, before_row, break_elements, column_in_rows, cursor_on, elements_in_rows, elements_of_text, elements_on, empty_first_row, is_full, last_shown, next_row, row_behind, row_break, row_view, row_with, rows_view, spread_from};
 
 use std::alloc::{AllocError, Global};
-use tw_host::OutputElement;
+use tw_host::{OutputElement, plain_element};
 use tw_hosts::{PromptScreen, settled_column};
 use tw_surface::{AttributeChange, CellAttributes, unicode_column_width};
 
@@ -153,13 +153,6 @@ fn column_in_rows(
     Ok(screen.column(shown.as_str(), at))
 }
 
-/// Returns a text as an element.
-fn text_element(alloc: Global, text: &str) -> Result<OutputElement, AllocError>
-    ensures { IfOk result (λ element. element_view element ≡ Text text.now) }
-{
-    Ok(OutputElement::Text(String::from_str(alloc, text)?))
-}
-
 /// Returns the break between a row and the next one, in the default attributes if the line has set others.
 fn break_elements(
     alloc: Global,
@@ -201,13 +194,13 @@ fn elements_of_text(
     let mut rest = text;
     while let Some((piece, more)) = rest.split_once('\n') {
         row.push(piece)?;
-        elements.push(text_element(alloc, piece)?)?;
+        elements.append(&mut plain_element(alloc, piece)?)?;
         elements.append(&mut break_elements(alloc, screen, continuation, set, row)?)?;
         row.begin_next();
         rest = more;
     }
     row.push(rest)?;
-    elements.push(text_element(alloc, rest)?)?;
+    elements.append(&mut plain_element(alloc, rest)?)?;
     Ok(elements)
 }
 

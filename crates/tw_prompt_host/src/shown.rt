@@ -5,7 +5,7 @@ ghost use Rattle.tw_host.specs.ElementView.{element_view};
 ghost use Rattle.tw_hosts.specs.SettledRules.{screen_view};
 ghost use Rattle.tw_line.specs.Cut.{cut_at};
 ghost use Rattle.tw_prompt_host.specs.Hint.{hint_of};
-ghost use Rattle.tw_prompt_host.specs.PromptRules.{after_line, failing_if, hint_if_after, hint_under, is_hinted};
+ghost use Rattle.tw_prompt_host.specs.PromptRules.{after_line, hint_if_after, hint_under, is_hinted};
 ghost use Rattle.tw_prompt_host.specs.Rows.{rows_view};
 
 use crate::after_line::after_line_on;
@@ -55,20 +55,7 @@ impl<H: LineEditorHost, L: History + LentLines, K: KeyPart, V: Validator> Prompt
         }
     }
 
-    /// Returns the message that a search fails, if it does.
-    fn failing_after(&self, alloc: Global, line: &str) -> Result<Vec<OutputElement>, AllocError>
-        ensures { IfOk result (λ elements. map element_view elements.items
-            ≡ failing_if self.now.going.fails (screen_view self.now.screen)
-            (rows_view self.now.rows) line.now) }
-    {
-        if !self.going.fails {
-            return Ok(Vec::new(alloc));
-        }
-        let style = CellAttributes::default();
-        after_line_on(alloc, &self.screen, &self.rows, line, style, FAILING)
-    }
-
-    /// Returns what stands after the line.
+    /// Returns what stands after the line: the message that a search fails, or a hint.
     pub(crate) fn after_line(
         &self,
         alloc: Global,
@@ -79,10 +66,11 @@ impl<H: LineEditorHost, L: History + LentLines, K: KeyPart, V: Validator> Prompt
             IfOk result (λ elements. map element_view elements.items
             ≡ after_line K.keys H.rules v (cut_at line.now cursor)) }
     {
-        if self.going.searching {
-            return self.failing_after(alloc, line);
+        if self.going.searching && self.going.fails {
+            let style = CellAttributes::default();
+            return after_line_on(alloc, &self.screen, &self.rows, line, style, FAILING);
         }
-        if self.is_hinted(line, cursor) {
+        if !self.going.searching && self.is_hinted(line, cursor) {
             return self.hint_after(alloc, line);
         }
         Ok(Vec::new(alloc))

@@ -49,10 +49,11 @@ impl PreparedLines {
 }
 
 impl Validator for PreparedLines {
-    ghost use Rattle.tw_prompt_host.specs.Validation.{prepared_lack};
+    ghost use Rattle.std.specs.Prelude.{if◌then◌else◌};
+    ghost use Rattle.tw_hosts.specs.Words.{is_same};
 
-    ghost lacks = { λ it line. prepared_lack (string_bytes it.line)
-        (option_map string_bytes it.lack) line };
+    ghost lacks = { λ it line. if is_same line (string_bytes it.line)
+        then option_map string_bytes it.lack else None };
 
     fn lack(&self, alloc: Global, line: &str) -> Result<Option<String>, AllocError> {
         match &self.lack {

@@ -21,18 +21,18 @@ loop-piece-preserved c =
     let pushed : row_view c.push.new.self ≡ row_with row piece = search rules in
     let between : map element_view c.in_ok-break_elements.field-0.items ≡ break_elements screen continuation set (row_with row piece) =
     c.in_ok-break_elements.ensures ∙ ap (break_elements screen continuation set) pushed in
-    let first : map element_view c.push-in-Some.new.self.items ≡ shown ++ Text piece ∷ [] =
-    ap (map element_view) c.in_ok-push-2.ensures.items ∙ map-append element_view c.loop-piece.elements.items _
-    ∙ ap (λ element. shown ++ element ∷ []) c.in_ok-text_element.ensures in
-    let new : map element_view c.append.new.self.items ≡ (shown ++ Text piece ∷ []) ++ map element_view c.in_ok-break_elements.field-0.items =
-    ap (map element_view) c.in_ok-append.ensures.items ∙ map-append element_view c.push-in-Some.new.self.items _
+    let first : map element_view c.append.new.self.items ≡ shown ++ Text piece ∷ [] =
+    ap (map element_view) c.in_ok-append.ensures.items ∙ map-append element_view c.loop-piece.elements.items _
+    ∙ ap (λ element. shown ++ element) c.in_ok-plain_element.ensures in
+    let new : map element_view c.append-in-Some.new.self.items ≡ (shown ++ Text piece ∷ []) ++ map element_view c.in_ok-break_elements.field-0.items =
+    ap (map element_view) c.in_ok-append-2.ensures.items ∙ map-append element_view c.append.new.self.items _
     ∙ ap (λ es. es ++ map element_view c.in_ok-break_elements.field-0.items) first in
     let begun : row_view c.begin_next.new.self ≡ next_row = search rules in
     record {
       utf8 = search rules;
-      shown = ap (λ r. map element_view c.append.new.self.items ++ elements_of_rows screen continuation set r (rows_of_text more)) begun
+      shown = ap (λ r. map element_view c.append-in-Some.new.self.items ++ elements_of_rows screen continuation set r (rows_of_text more)) begun
           ∙ elements-step screen continuation set row rest piece more shown (map element_view c.in_ok-break_elements.field-0.items)
-          (map element_view c.append.new.self.items) (elements_of_rows screen continuation set (row_view c.args.row.now) (rows_of_text c.args.text.now))
+          (map element_view c.append-in-Some.new.self.items) (elements_of_rows screen continuation set (row_view c.args.row.now) (rows_of_text c.args.text.now))
           parts.0 parts.1 between new c.loop-piece.invariant.shown;
       behind = ap (λ r. row_behind r more) begun
           ∙ behind-step row rest piece more (row_behind (row_view c.args.row.now) c.args.text.now) parts.0 c.loop-piece.invariant.behind;
@@ -47,10 +47,10 @@ returns-clause-elements c =
     let rest = c.loop-piece.rest.now in
     let shown = map element_view c.loop-piece.elements.items in
     let none = split_parts 10 rest None c.in_default.ensures.cases (omega arith) in
-    let new : map element_view c.push-3.new.self.items ≡ shown ++ Text rest ∷ [] =
-    ap (map element_view) c.in_ok-push-4.ensures.items ∙ map-append element_view c.loop-piece.elements.items _
-    ∙ ap (λ element. shown ++ element ∷ []) c.in_ok-text_element-2.ensures in
-    elements-last screen continuation set row rest shown (map element_view c.push-3.new.self.items)
+    let new : map element_view c.append-2.new.self.items ≡ shown ++ Text rest ∷ [] =
+    ap (map element_view) c.in_ok-append-3.ensures.items ∙ map-append element_view c.loop-piece.elements.items _
+    ∙ ap (λ element. shown ++ element) c.in_ok-plain_element-2.ensures in
+    elements-last screen continuation set row rest shown (map element_view c.append-2.new.self.items)
     (elements_of_rows screen continuation set (row_view c.args.row.now) (rows_of_text c.args.text.now)) none new c.loop-piece.invariant.shown
 
 pub returns-clause-row : goal.returns-clause-row
