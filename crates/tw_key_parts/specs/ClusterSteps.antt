@@ -5,7 +5,7 @@ use Rattle.tw_line.specs.declared.movements.Movement.TheVariants.{BackwardChar, 
 use Rattle.tw_key_parts.specs.declared.steps.Way.{Way}
 use Rattle.tw_key_parts.specs.declared.steps.Way.TheVariants.{Back, Ahead}
 
--- so many steps
+-- `count` steps that way
 abbrev pub cluster_steps : Way → ℕ → Movement
 cluster_steps Back count = BackwardChar count
 cluster_steps Ahead count = ForwardChar count
