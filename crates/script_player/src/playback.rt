@@ -1,6 +1,6 @@
 //! What a script keeps from line to line.
 
-ghost use Rattle.std.specs.Prelude.{◌≡◌, [], IfErr, IfOk, OnErr, OnOk, string_bytes};
+ghost use Rattle.std.specs.Prelude.{◌≡◌, [], IfErr, IfOk, OnOk, string_bytes};
 ghost use Rattle.script_player.specs.Answers.{IsContinuation};
 ghost use Rattle.script_player.specs.Written.{Extends, IsOutside};
 

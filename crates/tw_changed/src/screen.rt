@@ -1,12 +1,11 @@
 //! The screen.
 
-ghost use Rattle.std.specs.Prelude.{◌≡◌, ℕ, ◌+◌, ◌*◌, ◌<◌, ◌≤◌, ◌↔◌, [], ◌∷◌, ◌++◌, chars, map, max, length, Ok, Err, IfOk, OnOk, OnErr, slice_index_or, eqb, if◌then◌else◌, true, List};
+ghost use Rattle.std.specs.Prelude.{◌≡◌, ℕ, ◌+◌, ◌*◌, ◌<◌, ◌≤◌, ◌↔◌, [], ◌∷◌, ◌++◌, chars, map, max, length, Ok, Err, IfOk, OnOk, OnErr, slice_index_or, eqb, if◌then◌else◌, true};
 ghost use Rattle.std.specs.List.{list_all};
 ghost use Rattle.tw_surface.specs.Characters.{is_printable};
 ghost use Rattle.tw_surface.specs.ChangeView.{change_view};
 ghost use Rattle.tw_surface.specs.Simple.{spelled_change};
 ghost use Rattle.tw_surface.specs.Defaults.{default_color};
-ghost use Rattle.tw_surface.specs.Positions.{at_least_0, position_after};
 ghost use Rattle.laws_screens.specs.Strokes.Stroke.{Clear, ClearBehind, Move, Put};
 ghost use Rattle.laws_screens.specs.Pens.{change_strokes, char_stroke, kept_after, led};
 ghost use Rattle.laws_screens.specs.StyledCells.{styled};

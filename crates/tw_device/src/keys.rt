@@ -1,6 +1,6 @@
 //! Events that nobody knows before they come.
 
-ghost use Rattle.std.specs.Prelude.{◌≡◌, ◌≤◌, ◌==◌, ◌++◌, ◌∷◌, ℕ, [], List, length, drop, true, false, IfSome, IfOk, IfErr, OnOk, OnErr, MatchOption, ⊤, string_bytes};
+ghost use Rattle.std.specs.Prelude.{◌≡◌, ◌≤◌, ◌==◌, ◌++◌, ◌∷◌, ℕ, [], List, length, drop, true, false, IfSome, IfOk, IfErr, OnOk, OnErr, MatchOption, ⊤};
 ghost use Rattle.std.specs.Io.KnownBytes.{Consumes, IsAtEnd, Keeps};
 ghost use Rattle.tw_input.specs.EventView.{event_view, EventView};
 ghost use Rattle.tw_device.specs.Faults.{fault_of};

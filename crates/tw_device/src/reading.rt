@@ -72,7 +72,8 @@ fn begin<T: DeviceTerminal, H: LineEditorHost>(
 ) -> Result<(), Error>
     ensures same_reference { editor.new.terminal.ghost_name ≡ editor.old.terminal.ghost_name }
     ensures calls { IsLedByCalls T.does editor.old.terminal.now editor.new.terminal.now }
-    ensures told { IsCalledWith T.state T.follows T.may_keep T.does is_more editor.old.terminal.now editor.new.terminal.now }
+    ensures told { IsCalledWith T.state T.follows T.may_keep T.does is_more
+        editor.old.terminal.now editor.new.terminal.now }
     ensures ok { let before = frame T.state H.value editor.old host.now in
         let after = frame T.state H.value editor.new host.now in
         before.state.mode ≡ Inactive → OnOk result
@@ -178,7 +179,8 @@ fn take_events<S: EventSource, T: DeviceTerminal, H: LineEditorHost>(
 fn finish<T: DeviceTerminal>(editor: &mut LineEditor<'_, T>) -> Result<Option<String>, Error>
     ensures same_reference { editor.new.terminal.ghost_name ≡ editor.old.terminal.ghost_name }
     ensures calls { IsLedByCalls T.does editor.old.terminal.now editor.new.terminal.now }
-    ensures closed { IsCalledAtOnce T.state T.follows T.may_keep T.does editor.old.terminal.now editor.new.terminal.now }
+    ensures closed { IsCalledAtOnce T.state T.follows T.may_keep T.does
+        editor.old.terminal.now editor.new.terminal.now }
     ensures ok { let before = own_frame T.state editor.old in
         let after = own_frame T.state editor.new in
         let run = ending (answer_at before.state) before in
@@ -228,8 +230,8 @@ fn read_events<S: EventSource, T: DeviceTerminal, H: LineEditorHost>(
         IsToldAlong T.state T.does (taken_over H.rules begun) (S.told source.old)
         (S.told source.new)
         terminal.old terminal.new }
-    ensures asked { IsUntouchedOrAsked T.state T.follows T.may_keep T.does S.at_hand S.follows source.old source.new
-        terminal.old terminal.new }
+    ensures asked { IsUntouchedOrAsked T.state T.follows T.may_keep T.does S.at_hand S.follows
+        source.old source.new terminal.old terminal.new }
     ensures closed { let begun = fresh_frame prompt.now (H.value host.old) (T.state terminal.old) in
         OnOk result (IsClosedAsTold T.state T.follows T.may_keep T.does (taken_over H.rules begun)
         (S.told source.old) (S.told source.new) terminal.old terminal.new) }
@@ -246,10 +248,9 @@ fn read_events<S: EventSource, T: DeviceTerminal, H: LineEditorHost>(
 /// source. The answer, the batches, the screen's size and the host's value are those of the abstract editor's run over
 /// exactly the events that the source told by calls of `next_event` (`called`). The action `EndOfFile`, as Ctrl-D of
 /// the key table, is answered by `Answer::End` with an empty line, as is the end of the source with the line typed so
-/// far. A
-/// `Resized` sets the terminal's size, before the batches of its own and after those of the events before it (`along`).
-/// Before the last batches that come before the source may wait, the terminal learns that nothing more is at hand
-/// (`asked`), and so it does before the batch that closes an answered line (`ok`).
+/// far. A `Resized` sets the terminal's size, before the batches of its own and after those of the events before it
+/// (`along`). Before the last batches that come before the source may wait, the terminal learns that nothing more is at
+/// hand (`asked`), and so it does before the batch that closes an answered line (`ok`).
 ///
 /// If the source refuses, the line is closed as at the source's end, and the call fails with the source's refusal. It
 /// fails with `Device` if one call was told 2^64 - 1 events and none of them ended the line. Every other refusal is as
@@ -278,8 +279,8 @@ pub fn read_line_from<S: EventSource, T: DeviceTerminal, H: LineEditorHost>(
         IsToldAlong T.state T.does (taken_over H.rules begun) (S.told source.old)
         (S.told source.new)
         terminal.old terminal.new }
-    ensures asked { IsUntouchedOrAsked T.state T.follows T.may_keep T.does S.at_hand S.follows source.old source.new
-        terminal.old terminal.new }
+    ensures asked { IsUntouchedOrAsked T.state T.follows T.may_keep T.does S.at_hand S.follows
+        source.old source.new terminal.old terminal.new }
 {
     match read_events(alloc, source, terminal, host, prompt) {
         Err(Error::EndOfFile) => Ok(Answer::End(String::new(alloc))),

@@ -1,7 +1,6 @@
 //! A history whose lines are written too.
 
-ghost use Rattle.std.specs.Cow.{cow_str_bytes};
-ghost use Rattle.std.specs.Prelude.{◌≡◌, ◌∷◌, [], IfOk, IfSome, IsCharBoundary, None, OnErr, OnOk, Some, false, is_none, option_map, slice_get, true};
+ghost use Rattle.std.specs.Prelude.{◌≡◌, ◌∷◌, [], IfOk, None, OnErr, OnOk, Some, false, is_none, true};
 ghost use Rattle.tw_line.specs.NearestMatch.{last_line};
 ghost use Rattle.tw_history_parts.specs.HistoryFile.{is_cut_off, lines_in, unread_lines};
 ghost use Rattle.tw_history_parts.specs.Reading.{AddsAll};

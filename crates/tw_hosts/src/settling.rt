@@ -5,9 +5,8 @@
 //! counts the holes in.
 
 ghost use Rattle.std.specs.Prelude.{◌≡◌, ◌≤◌, ◌-ℤ◌, ◌∷◌, [], chars, MatchOption, IsCharBoundary, nat_abs, true, false};
-ghost use Rattle.std.specs.List.{list_all};
 ghost use Rattle.tw_surface.specs.Extents.{place_of, Measures};
-ghost use Rattle.tw_surface.specs.Places.{is_in_range, origin, pieces, places_after};
+ghost use Rattle.tw_surface.specs.Places.{is_in_range, pieces, places_after};
 ghost use Rattle.tw_surface.specs.Positions.{at_least_0};
 ghost use Rattle.tw_input.specs.EventView.{event_view};
 ghost use Rattle.tw_line.specs.Cut.{cut_at};

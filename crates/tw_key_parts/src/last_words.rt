@@ -1,6 +1,6 @@
 //! The last words of the lines of a history.
 
-ghost use Rattle.std.specs.Prelude.{◌≡◌, IfOk, None, option_map, slice_get, string_bytes};
+ghost use Rattle.std.specs.Prelude.{◌≡◌, None, option_map};
 ghost use Rattle.tw_input.specs.EventView.{event_view};
 ghost use Rattle.tw_key_parts.specs.EditView.{lent_action};
 ghost use Rattle.tw_key_parts.specs.KeyRules.{step_of};

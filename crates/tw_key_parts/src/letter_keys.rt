@@ -2,8 +2,7 @@
 
 ghost use Rattle.std.specs.Prelude.{◌≡◌, IfOk, option_map};
 ghost use Rattle.tw_host.specs.ActionView.{action_view};
-ghost use Rattle.tw_host.specs.KeyTable.{key_press, looked_up};
-ghost use Rattle.tw_input.specs.Modifiers.{alt, ctrl};
+ghost use Rattle.tw_host.specs.KeyTable.{looked_up};
 ghost use Rattle.tw_key_parts.specs.LetterKeys.{letter_table};
 ghost use Rattle.tw_key_parts.specs.LetterWords.{steps_to_word_end, steps_to_word_start};
 

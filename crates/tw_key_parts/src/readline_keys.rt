@@ -2,9 +2,6 @@
 
 ghost use Rattle.std.specs.Prelude.{◌≡◌, option_map};
 ghost use Rattle.tw_host.specs.ActionView.{action_view};
-ghost use Rattle.tw_host.specs.KeyTable.{key_press, looked_up};
-ghost use Rattle.tw_input.specs.EventView.{event_view};
-ghost use Rattle.tw_input.specs.Modifiers.{alt, ctrl};
 ghost use Rattle.tw_key_parts.specs.ReadlineKeys.{readline_key};
 
 use crate::edit::Edit;

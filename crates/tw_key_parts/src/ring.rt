@@ -1,6 +1,6 @@
 //! The kill ring.
 
-ghost use Rattle.std.specs.Prelude.{◌≡◌, ◌≤◌, ◌+◌, ◌<◌, ◌-◌, ◌++◌, ◌∷◌, [], false, length, map, take, IfOk, OnOk, Some, option_map, string_bytes};
+ghost use Rattle.std.specs.Prelude.{◌≡◌, ◌≤◌, ◌+◌, ◌<◌, ◌-◌, ◌++◌, ◌∷◌, [], false, length, map, take, IfOk, Some, option_map, string_bytes};
 ghost use Rattle.std.specs.String.{string_capacity};
 ghost use Rattle.std.specs.Vec.{vec_capacity, vec_len};
 ghost use Rattle.tw_input.specs.EventView.{event_view};

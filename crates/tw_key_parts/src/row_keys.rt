@@ -3,9 +3,7 @@
 ghost use Rattle.std.specs.Prelude.{◌≡◌, ◌≤◌, ◌<◌, ◌+◌, ◌-◌, IfOk, IsCharBoundary, length, option_map, string_bytes};
 ghost use Rattle.std.specs.Option.{option_flatten};
 ghost use Rattle.tw_host.specs.ActionView.{action_view};
-ghost use Rattle.tw_host.specs.KeyTable.{key_press};
 ghost use Rattle.tw_input.specs.EventView.{event_view};
-ghost use Rattle.tw_input.specs.Modifiers.{none, alt, ctrl};
 ghost use Rattle.tw_key_parts.specs.EditView.{edit_view};
 ghost use Rattle.tw_key_parts.specs.RowKeys.{cursor_column, edit_by, edit_of_pattern, goal_column, has_reached, has_rows, in_one_row, killed_to_end, move_to, moved_down, moved_to_end, moved_to_start, moved_up, place_in_row, row_character, row_edit, row_end, row_key, row_start, steps_to};
 

@@ -4,7 +4,7 @@ ghost use Rattle.std.specs.Prelude.{◌≡◌, ◌<◌, IfSome, length, option_m
 ghost use Rattle.std.specs.Vec.{vec_capacity, vec_len};
 ghost use Rattle.tw_input.specs.EventView.{event_view};
 ghost use Rattle.tw_key_parts.specs.EditView.{lent_action};
-ghost use Rattle.tw_key_parts.specs.Undo.{if_any, is_edit, is_end, is_same_line, is_undo, last_change, types_character, no_steps, steps_with, typing_after, undo_behind, undo_view};
+ghost use Rattle.tw_key_parts.specs.Undo.{if_any, is_edit, is_end, is_same_line, is_undo, last_change, types_character, no_steps, steps_with, typing_after, undo_view};
 ghost use Rattle.tw_key_parts.specs.KeyRules.{step_of};
 ghost use Rattle.tw_key_parts.specs.Undo.{undo_follows};
 

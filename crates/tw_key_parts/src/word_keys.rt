@@ -1,9 +1,7 @@
 //! Keys that edit words and characters.
 
 ghost use Rattle.std.specs.Prelude.{◌≡◌, IfOk};
-ghost use Rattle.tw_host.specs.KeyTable.{key_press};
 ghost use Rattle.tw_input.specs.EventView.{event_view};
-ghost use Rattle.tw_input.specs.Modifiers.{alt, ctrl};
 ghost use Rattle.tw_key_parts.specs.WordKeys.{edited_cut, word_edit};
 
 use crate::cases::{WordCase, with_word_in};

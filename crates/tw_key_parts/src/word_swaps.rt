@@ -1,6 +1,6 @@
 //! Words that change places.
 
-ghost use Rattle.std.specs.Prelude.{◌≡◌, ◌++◌, IfOk, option_map, string_bytes};
+ghost use Rattle.std.specs.Prelude.{◌≡◌, IfOk, option_map, string_bytes};
 ghost use Rattle.std.specs.Str.{trim_end};
 ghost use Rattle.tw_key_parts.specs.WordSwaps.{after_blanks, before_last_word, final_word, past_word, swapped_words, with_swapped_words};
 

@@ -1,12 +1,10 @@
 //! A host whose answers an application prepares, between two events.
 
-ghost use Rattle.std.specs.Prelude.{◌≡◌, [], IfOk, drop, if◌then◌else◌, length, map, take};
+ghost use Rattle.std.specs.Prelude.{◌≡◌, [], IfOk, drop, if◌then◌else◌, map, take};
 ghost use Rattle.tw_host.specs.CandidateView.{candidate_view};
 ghost use Rattle.tw_host.specs.ElementView.{element_view};
 ghost use Rattle.tw_host.specs.PlainAnswers.{all_overrides, no_plain_left};
-ghost use Rattle.tw_hosts.specs.Words.{is_same};
 ghost use Rattle.tw_surface.specs.Defaults.{default_attributes};
-ghost use Rattle.tw_key_parts.specs.Ring.{is_same_cut};
 ghost use Rattle.tw_prompt_host.specs.Prepared.{behind_range, bytes_before, shown_range, styled_ranges};
 
 use std::alloc::{AllocError, Global};

@@ -5,7 +5,7 @@ ghost use Rattle.tw_ansi.specs.Encoding.{terse_batch};
 ghost use Rattle.tw_surface.specs.ChangeView.{ClearToEndOfScreen, CursorPosition, batch_view, change_view};
 ghost use Rattle.tw_surface.specs.declared.change.Position.TheVariants.{Absolute};
 ghost use Rattle.tw_surface.specs.Defaults.{default_color};
-ghost use Rattle.tw_changed.specs.Sending.{IsPrintable, screen_cells};
+ghost use Rattle.tw_changed.specs.Sending.{IsPrintable};
 ghost use Rattle.tw_sparing.specs.Shown.{changes_below, first_shown, goes_out_of_sight, left_behind, rows_above, Empties, IsBegunBy, FitsTerminal, IsDrawnAfter, IsEmptiedFrom, IsFromStart, IsInSight, IsKnownAfter, IsKnownBy, IsMovedBy, IsRefilled, IsShortMove, IsPlayable, IsPlayed, IsPlayedOnce, KeepsAbove, LeadsToStart, SetsAttributes};
 
 use std::alloc::{AllocError, Global};

@@ -1,15 +1,14 @@
 //! The attributes of a cell, and the columns that a text takes.
 
-ghost use Rattle.std.specs.Prelude.{◌≡◌, ◌+◌, ◌*◌, ◌<◌, ◌≤◌, [], length, true, IfSome, MatchOption};
+ghost use Rattle.std.specs.Prelude.{◌≡◌, ◌+◌, ◌*◌, ◌<◌, ◌≤◌, [], length, true, MatchOption};
 ghost use Rattle.std.specs.List.{sum_by};
 ghost use Rattle.unicode_segmentation.specs.Grapheme.{graphemes};
 ghost use Rattle.tw_surface.specs.Attributes.{with_attribute};
 ghost use Rattle.tw_surface.specs.Places.{BeginsWithColumns};
 ghost use Rattle.tw_surface.specs.Width.{cluster_width, column_width};
 
-use crate::blocks::is_flag_letter;
 use crate::characters::is_printable_text;
-use crate::clusters::{lone_len, lone_width, split_by_byte, split_by_bytes, split_cluster};
+use crate::clusters::{lone_len, lone_width, split_cluster, split_settled};
 use crate::color::ColorAttribute;
 use unicode_width::UnicodeWidthStr;
 
@@ -177,13 +176,10 @@ fn split_columns(text: &str) -> Option<(usize, &str)>
         (graphemes true text.now ≡ [])
         (λ (columns, rest). BeginsWithColumns text.now columns rest.now) }
 {
-    if let Some(split) = split_by_byte(text) {
-        return Some(split);
+    match split_settled(text) {
+        Some(split) => Some(split),
+        None => split_ruled_columns(text),
     }
-    if let Some(split) = split_by_bytes(text) {
-        return Some(split);
-    }
-    split_ruled_columns(text)
 }
 
 /// Returns the same of any other text. It is a function of its own, so that the one above stays short.

@@ -219,10 +219,21 @@ pub fn lone_width(len: usize) -> usize
     if len == 3 { 2 } else { 1 }
 }
 
-/// Returns the columns of the first cluster of a text and what follows it, if the first byte tells the base, and nothing
-/// but plain marks and conjuncts joins that.
+/// Returns the columns of the first cluster of a text and what follows it, if its first characters tell them.
+// Inlined in both loops, so that a letter takes one call.
+#[inline(always)]
+pub fn split_settled(text: &str) -> Option<(usize, &str)>
+    ensures { IfSome result (λ (columns, rest). IsWideSplit text.now columns rest.now) }
+{
+    match split_by_byte(text) {
+        Some(split) => Some(split),
+        None => split_by_bytes(text),
+    }
+}
+
+/// Returns the same if the first byte tells the base, and nothing but plain marks and conjuncts joins that.
 #[inline]
-pub fn split_by_byte(text: &str) -> Option<(usize, &str)>
+fn split_by_byte(text: &str) -> Option<(usize, &str)>
     ensures { IfSome result (λ (columns, rest). IsWideSplit text.now columns rest.now) }
 {
     let len = lone_len(*text.as_bytes().first()?);
@@ -240,9 +251,8 @@ pub fn split_by_byte(text: &str) -> Option<(usize, &str)>
 
 /// Returns the same if the first characters tell it: another base, with plain marks and conjuncts or none behind it, a
 /// syllable of Hangul, a flag, a keycap, or an emoji with a skin tone or before U+FE0F.
-// Inlined in both loops, so that a letter takes one call.
 #[inline(always)]
-pub fn split_by_bytes(text: &str) -> Option<(usize, &str)>
+fn split_by_bytes(text: &str) -> Option<(usize, &str)>
     ensures { IfSome result (λ (columns, rest). IsWideSplit text.now columns rest.now) }
 {
     match text.as_bytes() {

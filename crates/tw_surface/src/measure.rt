@@ -1,6 +1,6 @@
 //! How texts move the place of a sequence.
 
-ghost use Rattle.std.specs.Prelude.{◌≡◌, ◌<◌, ◌≤◌, [], ◌∷◌, length, map, replicate, true, IfSome, MatchOption};
+ghost use Rattle.std.specs.Prelude.{◌≡◌, ◌<◌, ◌≤◌, [], ◌∷◌, map, replicate, true, MatchOption};
 ghost use Rattle.unicode_segmentation.specs.Grapheme.{graphemes};
 ghost use Rattle.tw_surface.specs.declared.measure.Piece.TheVariants.{Wide};
 ghost use Rattle.tw_surface.specs.Places.{BeginsWithPiece, plain_piece, cluster_piece, pieces, next_place, places_after, is_in_range};
@@ -8,7 +8,7 @@ ghost use Rattle.tw_surface.specs.Extents.{place_of, Measures, start_extent};
 
 use crate::cell::cluster_width;
 use crate::characters::{is_plain_text, is_printable_text};
-use crate::clusters::{split_by_byte, split_by_bytes, split_cluster};
+use crate::clusters::{split_cluster, split_settled};
 use crate::size::MAX_REACH;
 
 /// A piece of a text, by what it does to the cursor.
@@ -150,13 +150,10 @@ fn split_piece(text: &str) -> Option<(Piece, &str)>
         (graphemes true text.now ≡ [])
         (λ (piece, rest). BeginsWithPiece text.now piece rest.now) }
 {
-    if let Some((columns, rest)) = split_by_byte(text) {
-        return Some((Piece::Wide(columns), rest));
+    match split_settled(text) {
+        Some((columns, rest)) => Some((Piece::Wide(columns), rest)),
+        None => split_ruled_piece(text),
     }
-    if let Some((columns, rest)) = split_by_bytes(text) {
-        return Some((Piece::Wide(columns), rest));
-    }
-    split_ruled_piece(text)
 }
 
 /// Returns the same of any other text. It is a function of its own, so that the one above stays short.

@@ -75,8 +75,8 @@ impl ScrollingScreen {
     /// Plays a change, or refuses it and leaves the screen as it was. Only a text takes memory, and it is tested
     /// before it does. A text is played to its end before the rows that it scrolled off are dropped.
     pub fn apply(&mut self, change: &Change) -> Result<(), ScreenFault>
-        ensures rows { self.new.rows ≡ self.old.rows }
-        ensures width { self.new.screen.width ≡ self.old.screen.width }
+        ensures size { (self.new.rows ≡ self.old.rows)
+            × (self.new.screen.width ≡ self.old.screen.width) }
         ensures played { OnOk result (picture self.new.screen
             ≡ play_in (change_view change.now) self.old) }
         ensures refused { OnErr result (self.new ≡ self.old) }

@@ -1,6 +1,6 @@
 //! Room for a text: which cells are near.
 
-ghost use Rattle.std.specs.Prelude.{◌≡◌, ℕ, ◌+◌, ◌-◌, ◌*◌, ◌^◌, [], length, ◌<◌, ◌≤◌, vec_len, vec_capacity, OnOk, OnErr, IfSome};
+ghost use Rattle.std.specs.Prelude.{◌≡◌, ℕ, ◌+◌, ◌-◌, ◌^◌, [], length, ◌<◌, ◌≤◌, vec_len, vec_capacity, OnOk, OnErr, IfSome};
 ghost use Rattle.std.specs.List.{All};
 ghost use Rattle.tw_surface.specs.Cells.{shown_at, IsSparse, AreCellsBefore};
 
