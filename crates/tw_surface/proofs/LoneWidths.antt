@@ -1,5 +1,5 @@
 -- The columns of characters that are a cluster each in a row of them.
-use Rattle.std.proofs.Common.{◌≡◌, if◌then◌else◌, append_assoc, Option, Some, None, IfSome, ℕ, ◌<◌, ◌≤◌, Bool, true, false, not, ◌&&◌, ◌||◌, ◌-◌, eqb, leb, nat_lt, List, [], ◌∷◌, ◌++◌, length, length-append, get_or, take, take_at, drop, drop_at, refl, sym, ap, ap₂, subst, ◌∙◌, arith, append-nil, ⊎_elim, ◌+◌}
+use Rattle.std.proofs.Common.{◌≡◌, if◌then◌else◌, append_assoc, Option, Some, None, IfSome, ℕ, ◌<◌, ◌≤◌, Bool, true, false, not, ◌&&◌, ◌||◌, ◌-◌, eqb, leb, nat_lt, List, [], ◌∷◌, ◌++◌, length, length-append, get_or, take, take_at, drop, drop_at, refl, sym, ap, ap₂, subst, ◌∙◌, arith, append-nil, add-zero, ⊎_elim, ◌+◌}
 use Rattle.std.proofs.lemmas.Bool.{false≢true, or_cases, and_from, and_parts, leb-true, cases_Bool, cases_lt, cases_eq}
 use Rattle.std.proofs.lemmas.Bool.Decides.{nat_tests}
 use Rattle.std.proofs.lemmas.Str.{chars_from_encodes, IsCharBoundary-at_seam, IsUtf8-past_char, IsUtf8-take}
@@ -26,12 +26,12 @@ use Rattle.unicode_segmentation.specs.Grapheme.{graphemes, is_consonant, is_exte
 use Rattle.unicode_width.specs.declared.kind.Kind.{Kind}
 use Rattle.unicode_width.specs.declared.kind.Kind.TheVariants as kinds
 use Rattle.unicode_width.specs.Kind.{kind}
-use Rattle.unicode_width.specs.declared.state.After.TheVariants.{Emoji}
-use Rattle.unicode_width.specs.Width.{before, char_width, is_emoji_modifier_base, is_emoji_variation_base, plain, of_kind, alone, in_context, joins, past_emoji, past_selectors, step, str_width}
+use Rattle.unicode_width.specs.declared.state.After.TheVariants.{Emoji, KhmerLetter}
+use Rattle.unicode_width.specs.Width.{before, char_width, is_emoji_modifier_base, is_emoji_variation_base, plain, of_kind, alone, in_context, joins, past_emoji, past_selectors, read_before, step, str_width, Reading}
 use Rattle.unicode_width.proofs.Computing.{unicode_width}
 use Rattle.unicode_width.proofs.KindLemmas.{kind_stepped}
 use Rattle.unicode_width.proofs.Rules.{is_simple, is_simple_kind, str_width-append_simple, str_width-printable}
-use Rattle.tw_surface.specs.Clusters.{conjunct_blocks, is_joined, is_linker, is_other, mark_blocks, ends_syllable, stands_alone, skin_tones, syllables, IsFirstCluster, flag_letters, lone_columns, lone_len, narrow_blocks, picture_blocks, wide_blocks}
+use Rattle.tw_surface.specs.Clusters.{conjunct_blocks, khmer_subscripts, is_joined, is_linker, is_other, mark_blocks, ends_syllable, stands_alone, skin_tones, syllables, IsFirstCluster, flag_letters, lone_columns, lone_len, narrow_blocks, picture_blocks, wide_blocks}
 use Rattle.tw_surface.specs.Width.{cluster_width}
 use Rattle.tw_surface.specs.Openings.{AddsColumns, IsFront, IsWithAdded}
 use Rattle.tw_surface.specs.Places.{cluster_piece, IsWideSplit}
@@ -305,6 +305,59 @@ conjunct_is_added linker letter first links second consonant =
       joins = λ front opened. open_conjunct [] front linker letter opened is;
       adds = λ front. str_width-append_simple false front (linker ∷ letter ∷ []) simple ∙ ap (λ n. str_width false front + n) columns;
     }
+
+-- the linker of Khmer and a subscript add none
+is_khmer : Kind → Bool
+is_khmer kinds.KhmerLetter = true
+is_khmer _ = false
+
+khmer-is : (k : Kind) → is_khmer k ≡ true → k ≡ kinds.KhmerLetter
+unfolding is_khmer
+khmer-is kinds.KhmerLetter h = refl
+khmer-is _ h = absurd (false≢true h)
+
+khmer_linker : (grapheme_cluster_break 0x17D2 ≡ Extend) × (indic_conjunct_break 0x17D2 ≡ conjuncts.Linker)
+unfolding grapheme_cluster_break indic_conjunct_break ucd_breaks ucd_derived tables
+khmer_linker = (refl, refl)
+
+khmer_facts : (c : ℕ) → in_ranges khmer_subscripts c ≡ true → (is_consonant (indic_conjunct_break c) && (is_other (grapheme_cluster_break c) && is_khmer (kind c))) ≡ true
+unfolding is_khmer tables ucd_breaks ucd_derived kind_stepped
+khmer_facts =
+    throughout (λ is. is) (λ c. is_consonant (indic_conjunct_break c) && (is_other (grapheme_cluster_break c) && is_khmer (kind c)))
+    (zip_stepped (λ v is. is_consonant v && is) indic_conjunct_break (λ c. is_other (grapheme_cluster_break c) && is_khmer (kind c)) indic_conjunct_break_stepped
+    (zip_stepped (λ g k. is_other g && is_khmer k) grapheme_cluster_break kind grapheme_cluster_break_stepped kind_stepped))
+    khmer_subscripts refl refl
+
+linker_read : step false 0x17D2 (1, before KhmerLetter) ≡ (0, plain)
+unfolding unicode_width tables
+linker_read = refl
+
+subscript_read : (letter : ℕ) → 0xA0 < letter → kind letter ≡ kinds.KhmerLetter → read_before false (0x17D2 ∷ letter ∷ []) (0, plain) ≡ (0, plain)
+unfolding step past_emoji alone
+subscript_read letter high is =
+    let last : step false letter (0, plain) ≡ (1, before KhmerLetter) = grind (arith, nat_tests, high, is) in
+    ap (step false 0x17D2) last ∙ linker_read
+
+read_past : (front behind : List ℕ) (r : Reading) → read_before false behind r ≡ r → read_before false (front ++ behind) r ≡ read_before false front r
+read_past [] behind r same = same
+read_past (c ∷ front) behind r same = ap (step false c) (read_past front behind r same)
+
+pub subscript_is_added : (linker letter : ℕ) → linker ≡ 0x17D2 → in_ranges khmer_subscripts letter ≡ true → AddsColumns (linker ∷ letter ∷ []) 0
+unfolding str_width
+subscript_is_added linker letter links inside =
+    let facts = and_parts (is_consonant (indic_conjunct_break letter)) _ (khmer_facts letter inside) in
+    let last = and_parts (is_other (grapheme_cluster_break letter)) (is_khmer (kind letter)) facts.1 in
+    let read = subscript_read letter (block_above khmer_subscripts letter refl inside) (khmer-is _ last.1) in
+    let is : IsConjunct 0x17D2 letter = record {
+      extend = khmer_linker.0;
+      links = khmer_linker.1;
+      other = other-is _ last.0;
+      consonant = consonant-is _ facts.0;
+    } in
+    subst (λ c. AddsColumns (c ∷ letter ∷ []) 0) (sym links) (record {
+      joins = λ front opened. open_conjunct [] front 0x17D2 letter opened is;
+      adds = λ front. ap (λ r. r.0) (read_past front (0x17D2 ∷ letter ∷ []) (0, plain) read) ∙ sym (add-zero (str_width false front));
+    })
 
 pub some_with : {A : Type 0} → {P Q : A → Type 0} → (found : Option A) → ((value : A) → P value → Q value) → IfSome found P → IfSome found Q
 some_with (Some value) step holds = step value holds

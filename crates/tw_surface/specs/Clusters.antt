@@ -97,9 +97,18 @@ stands_alone c = is_other (grapheme_cluster_break c) && not (is_linking (indic_c
 abbrev pub mark_blocks : List Range
 mark_blocks = (0x300, 0x337) ∷ (0x339, 0x200C) ∷ (0x200E, 0x2CFF) ∷ []
 
--- blocks in which a linker and a consonant add one column: India's scripts and Myanmar's
+-- blocks in which a linker and a consonant add one column: India's scripts, Myanmar's, and what is no subscript of
+-- Khmer's
 abbrev pub conjunct_blocks : List Range
-conjunct_blocks = (0x900, 0xDFF) ∷ (0x1000, 0x109F) ∷ []
+conjunct_blocks =
+    (0x900, 0xDFF) ∷ (0x1000, 0x109F) ∷ (0x1783, 0x1783) ∷ (0x1788, 0x1788) ∷ (0x178D, 0x178D) ∷ (0x1794, 0x1794)
+    ∷ (0x1799, 0x179A) ∷ (0x17A1, 0x17A1) ∷ (0x17D2, 0x17D2) ∷ []
+
+-- letters of Khmer that take no column behind its linker
+abbrev pub khmer_subscripts : List Range
+khmer_subscripts =
+    (0x1780, 0x1782) ∷ (0x1784, 0x1787) ∷ (0x1789, 0x178C) ∷ (0x178E, 0x1793) ∷ (0x1795, 0x1798) ∷ (0x179B, 0x179D)
+    ∷ (0x17A0, 0x17A0) ∷ (0x17A2, 0x17A2) ∷ []
 
 -- a mark that may stand between a pictograph and a joiner: no linker
 abbrev pub is_plain_extend : ℕ → Bool

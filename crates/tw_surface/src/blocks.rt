@@ -2,7 +2,7 @@
 
 ghost use Rattle.std.specs.Prelude.{◌≡◌, ◌≤◌, true};
 ghost use Rattle.ucd_table.specs.Rows.{in_ranges};
-ghost use Rattle.tw_surface.specs.Clusters.{conjunct_blocks, flag_letters, lone_columns, lone_ranges, mark_blocks, narrow_blocks, picture_blocks, skin_tones, syllables, wide_blocks};
+ghost use Rattle.tw_surface.specs.Clusters.{conjunct_blocks, flag_letters, khmer_subscripts, lone_columns, lone_ranges, mark_blocks, narrow_blocks, picture_blocks, skin_tones, syllables, wide_blocks};
 
 /// No character before it joins what stands before.
 pub const FIRST_MARK: char = '\u{300}';
@@ -108,7 +108,36 @@ pub fn is_in_mark_block(c: char) -> bool
 pub fn is_in_conjunct_block(c: char) -> bool
     ensures { result ≡ in_ranges conjunct_blocks c }
 {
-    matches!(c, '\u{900}'..='\u{DFF}' | '\u{1000}'..='\u{109F}')
+    matches!(
+        c,
+        '\u{900}'..='\u{DFF}'
+            | '\u{1000}'..='\u{109F}'
+            | '\u{1783}'
+            | '\u{1788}'
+            | '\u{178D}'
+            | '\u{1794}'
+            | '\u{1799}'..='\u{179A}'
+            | '\u{17A1}'
+            | '\u{17D2}'
+    )
+}
+
+/// Returns true if the character is a letter of Khmer that takes no column behind a linker.
+#[tactic(auto, unfolding(ucd_table::specs::Rows::in_ranges))]
+pub fn is_khmer_subscript(c: char) -> bool
+    ensures { result ≡ in_ranges khmer_subscripts c }
+{
+    matches!(
+        c,
+        '\u{1780}'..='\u{1782}'
+            | '\u{1784}'..='\u{1787}'
+            | '\u{1789}'..='\u{178C}'
+            | '\u{178E}'..='\u{1793}'
+            | '\u{1795}'..='\u{1798}'
+            | '\u{179B}'..='\u{179D}'
+            | '\u{17A0}'
+            | '\u{17A2}'
+    )
 }
 
 /// Returns true if the character stands in a range that [`lone_len`] knows by its first byte.

@@ -12,7 +12,7 @@ ghost use Rattle.tw_surface.specs.Openings.{AddsColumns, BeginsOpen, GoesOn, IsF
 
 use crate::blocks::{
     FIRST_MARK, is_flag_letter, is_in_conjunct_block, is_in_lone_range, is_in_mark_block,
-    is_in_picture_block, is_skin_tone, is_syllable, lone_columns,
+    is_in_picture_block, is_khmer_subscript, is_skin_tone, is_syllable, lone_columns,
 };
 use ucd_breaks::GraphemeClusterBreak;
 use ucd_derived::IndicConjunctBreak;
@@ -28,6 +28,9 @@ const LAST_ALONE: char = '\u{A0}';
 
 /// The first linker of conjuncts that does not join what stands before it.
 const FIRST_VEDIC_LINKER: char = '\u{1CF5}';
+
+/// The linker of Khmer, which makes a subscript of the letter behind it.
+const KHMER_LINKER: char = '\u{17D2}';
 
 /// The selector by which the character before it is shown as an emoji.
 const SELECTOR: char = '\u{FE0F}';
@@ -258,8 +261,8 @@ fn split_by_bytes(text: &str) -> Option<(usize, &str)>
     match text.as_bytes() {
         [0xE2, _, _, 0xEF, 0xB8, ..] => split_pair(text),
         [0xC2 | 0xD2..=0xDF | 0xE0 | 0xE2 | 0xE3 | 0xEE | 0xEF, ..] => split_base(text),
-        // (Jamo, letters of Khmer before a linker)
-        [0xE1, 0x84..=0x87, ..] | [0xE1, _, _, 0xE1, 0x9F, 0x92, ..] => None,
+        // (Jamo)
+        [0xE1, 0x84..=0x87, ..] => None,
         [0xEA, 0xB0..=0xBF, ..] | [0xEB..=0xED, ..] => split_syllable(text),
         [0xF0, 0x9F, 0x87, ..]
         | [0xF0, _, _, _, 0xEF, 0xB8, ..]
@@ -385,12 +388,15 @@ fn mark_columns(mark: char) -> Option<usize>
 }
 
 /// Returns the columns that a linker and the letter behind it add to the cluster that they join.
-#[tactic(auto, using(crate::proofs::LoneWidths::conjunct_is_added))]
+#[tactic(auto, using(crate::proofs::LoneWidths::conjunct_is_added, crate::proofs::LoneWidths::subscript_is_added))]
 fn conjunct_columns(linker: char, letter: char) -> Option<usize>
     requires { is_linker (indic_conjunct_break linker) ≡ true }
     ensures added { IfSome result (AddsColumns (linker ∷ letter ∷ [])) }
     ensures bound { IfSome result (λ columns. columns ≤ 1) }
 {
+    if linker == KHMER_LINKER && is_khmer_subscript(letter) {
+        return Some(0);
+    }
     if is_in_conjunct_block(linker) && is_in_conjunct_block(letter) && is_consonant(letter) {
         Some(1)
     } else {
