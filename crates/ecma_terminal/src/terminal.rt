@@ -286,12 +286,14 @@ impl EcmaTerminal {
     /// Receives a byte after ESC [ and these parameters.
     fn receive_behind(&mut self, mut parameters: Vec<u8>, byte: u8) -> Result<(), EcmaFault>
         requires { self.old.reading ≡ terminal.Text }
-        ensures ok { let before = record self.old { reading = terminal.Parameters parameters.items } in
+        ensures ok { let reading = terminal.Parameters parameters.items in
+            let before = record self.old { reading = reading } in
             OnOk result (Becomes before
             (receive styled self.old.grid.rows self.old.grid.cols byte) self.new) }
         ensures err { OnErr result (self.new
             ≡ record self.old { reading = terminal.Parameters parameters.items }) }
-        ensures cause { let before = record self.old { reading = terminal.Parameters parameters.items } in
+        ensures cause { let reading = terminal.Parameters parameters.items in
+            let before = record self.old { reading = reading } in
             IfErr result (λ fault. IsRefusedFor fault before byte) }
         ensures large { is_parameter byte ≡ false
             → ends_in_large parameters.items byte self.old.attributes ≡ true → result

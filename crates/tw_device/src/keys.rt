@@ -82,8 +82,13 @@ impl<R: Read> KeyReader<R> {
     pub fn new(alloc: Global, reader: R) -> Self
         ensures told { ⟦<KeyReader<R> as EventSource>⟧.told result ≡ [] }
         ensures going { ⟦<KeyReader<R> as EventSource>⟧.state result ≡ Going }
-        ensures held { held_by R.remaining result
-            ≡ record { escape = AtOnce; pasted = OneRow; unread = []; was_full = false; left = R.remaining reader } }
+        ensures held { held_by R.remaining result ≡ record {
+          escape = AtOnce;
+          pasted = OneRow;
+          unread = [];
+          was_full = false;
+          left = R.remaining reader;
+        } }
     {
         KeyReader::with_escape(alloc, reader, Escape::AtOnce)
     }
@@ -92,8 +97,13 @@ impl<R: Read> KeyReader<R> {
     pub fn with_escape(alloc: Global, reader: R, escape: Escape) -> Self
         ensures told { ⟦<KeyReader<R> as EventSource>⟧.told result ≡ [] }
         ensures going { ⟦<KeyReader<R> as EventSource>⟧.state result ≡ Going }
-        ensures held { held_by R.remaining result
-            ≡ record { escape = escape; pasted = OneRow; unread = []; was_full = false; left = R.remaining reader } }
+        ensures held { held_by R.remaining result ≡ record {
+          escape = escape;
+          pasted = OneRow;
+          unread = [];
+          was_full = false;
+          left = R.remaining reader;
+        } }
     {
         KeyReader {
             alloc,

@@ -26,8 +26,8 @@ pub fn read_typed_line<R: Read, T: DeviceTerminal, H: LineEditorHost>(
     prompt: &str,
 ) -> Result<Answer, Error>
     ensures ok { let begun = fresh_frame prompt.now (H.value host.old) (T.state terminal.old) in
-        IfOk result (IsToldAnswer H.rules H.OVERRIDES keys.old.told keys.new.told keys.new.state begun
-        (H.value host.new) (T.state terminal.new)
+        IfOk result (IsToldAnswer H.rules H.OVERRIDES keys.old.told keys.new.told keys.new.state
+        begun (H.value host.new) (T.state terminal.new)
         (IsClosedAsTold T.state T.follows T.may_keep T.does (taken_over H.rules begun)
         keys.old.told keys.new.told terminal.old terminal.new)) }
     ensures err { let begun = fresh_frame prompt.now (H.value host.old) (T.state terminal.old) in

@@ -32,7 +32,8 @@ impl<'term, T: Terminal> LineEditor<'term, T> {
             (frame T.state H.value self.old host.old) (frame T.state H.value self.new) host.new
             (option_map string_bytes line)) }
         ensures err { self.old.session.state.mode ≡ Inactive → IfErr result (
-            FailsToReadAndRemember H.rules H.OVERRIDES H.value H.history_of H.with_history H.Hist.add_gives
+            FailsToReadAndRemember H.rules H.OVERRIDES
+            H.value H.history_of H.with_history H.Hist.add_gives
             (frame T.state H.value self.old host.old) (frame T.state H.value self.new) host.new) }
         ensures shows { self.old.session.state.mode ≡ Inactive
             → across T.state H.value (ShowsWith H.rules None)

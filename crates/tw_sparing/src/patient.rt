@@ -104,8 +104,8 @@ impl<W: Write> PatientTerminal<W> {
         ensures kept { patient_state self.new ≡ patient_state self.old }
         ensures sent { let sent = sent_then (sent_ahead self.old.ahead self.old.encoder)
             (sent_deed (Said text.now)) in
-            OnOk result (Appends (W.contents self.old.writer) (W.contents self.new.writer) sent.bytes
-            × (self.new.encoder ≡ sent.next)) }
+            OnOk result (Appends (W.contents self.old.writer) (W.contents self.new.writer)
+            sent.bytes × (self.new.encoder ≡ sent.next)) }
         ensures refused { OnErr result ((self.new.encoder ≡ self.old.encoder)
             × (self.new.at_start ≡ false)) }
         ensures ahead { self.new.ahead ≡ settled_at self.old.ahead.size None }

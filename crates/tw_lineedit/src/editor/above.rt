@@ -57,7 +57,8 @@ impl<'term, T: Terminal> LineEditor<'term, T> {
             × across T.state H.value IsSame self.old host.now self.new host.now }
         ensures ok { is_open self.old.session.state.mode ≡ true
             → OnOk result (across T.state H.value (PrintsAbove H.rules text.now)
-            self.old host.now self.new host.now × across T.state H.value (ShowsAbove H.rules text.now)
+            self.old host.now self.new host.now
+            × across T.state H.value (ShowsAbove H.rules text.now)
             self.old host.now self.new host.now) }
         ensures status { IfOk result (λ status. status
             ≡ status_if (is_open self.new.session.state.mode)) }

@@ -83,7 +83,8 @@ impl<'term, T: Terminal> LineEditor<'term, T> {
         ensures terminal { KeepsTerminal T.follows self.old.terminal self.new.terminal }
         ensures ended { is_open self.old.session.state.mode ≡ false
             → (result ≡ Ok LineStatus.Ended) × (self.new.terminal.now ≡ self.old.terminal.now)
-            × (host.new ≡ host.old) × across T.state H.value IsSame self.old host.old self.new host.new }
+            × (host.new ≡ host.old)
+            × across T.state H.value IsSame self.old host.old self.new host.new }
         ensures ok { is_open self.old.session.state.mode ≡ true
             → OnOk result (across T.state H.value
             (IsFed H.rules H.OVERRIDES (event_view event.now))
