@@ -1,6 +1,6 @@
 -- The columns of characters that are a cluster each in a row of them.
 use Rattle.std.proofs.Common.{◌≡◌, if◌then◌else◌, append_assoc, Option, Some, None, IfSome, ℕ, ◌<◌, ◌≤◌, Bool, true, false, not, ◌&&◌, ◌||◌, ◌-◌, eqb, leb, nat_lt, List, [], ◌∷◌, ◌++◌, length, length-append, get_or, take, take_at, drop, drop_at, refl, sym, ap, ap₂, subst, ◌∙◌, arith, append-nil, add-zero, ⊎_elim, ◌+◌}
-use Rattle.std.proofs.lemmas.Bool.{false≢true, or_cases, and_from, and_parts, leb-true, cases_Bool, cases_lt, cases_eq}
+use Rattle.std.proofs.lemmas.Bool.{false≢true, or_cases, and_from, and_parts, eqb-true, leb-true, cases_Bool, cases_lt, cases_eq}
 use Rattle.std.proofs.lemmas.Bool.Decides.{nat_tests}
 use Rattle.std.proofs.lemmas.Str.{chars_from_encodes, IsCharBoundary-at_seam, IsUtf8-past_char, IsUtf8-take}
 use Rattle.std.specs.Char.{encode_utf8}
@@ -25,11 +25,11 @@ use Rattle.ucd_emoji.proofs.Computing.{ucd_emoji}
 use Rattle.unicode_segmentation.specs.Grapheme.{graphemes, is_consonant, is_extend}
 use Rattle.unicode_width.specs.declared.kind.Kind.{Kind}
 use Rattle.unicode_width.specs.declared.kind.Kind.TheVariants as kinds
-use Rattle.unicode_width.specs.Kind.{kind}
+use Rattle.unicode_width.specs.Kind.{kind, kind_from_number, kind_number, number_of_kind}
 use Rattle.unicode_width.specs.declared.state.After.TheVariants.{Emoji, KhmerLetter}
 use Rattle.unicode_width.specs.Width.{before, char_width, is_emoji_modifier_base, is_emoji_variation_base, plain, of_kind, alone, in_context, joins, past_emoji, past_selectors, read_before, step, str_width, Reading}
 use Rattle.unicode_width.proofs.Computing.{unicode_width}
-use Rattle.unicode_width.proofs.KindLemmas.{kind_stepped}
+use Rattle.unicode_width.proofs.KindLemmas.{kind_from_number-kind_number, kind_stepped}
 use Rattle.unicode_width.proofs.Rules.{is_simple, is_simple_kind, str_width-append_simple, str_width-printable}
 use Rattle.tw_surface.specs.Clusters.{conjunct_blocks, khmer_subscripts, is_joined, is_linker, is_other, mark_blocks, ends_syllable, stands_alone, skin_tones, syllables, IsFirstCluster, flag_letters, lone_columns, lone_len, narrow_blocks, picture_blocks, wide_blocks}
 use Rattle.tw_surface.specs.Width.{cluster_width}
@@ -174,14 +174,6 @@ split_first text cluster rest columns u v whole high few wide first =
       bound = few;
     }
 
--- a character that is the first cluster of a text
-wide_first : (text rest : List ℕ) (c columns : ℕ) → IsUtf8 text → IsUtf8 rest → text ≡ encode_utf8 c ++ rest → 0xA0 < c → columns ≤ 2
-    → str_width false (c ∷ []) ≡ columns → IsFirstCluster text (length text - length rest) → IsWideSplit text columns rest
-wide_first text rest c columns u v whole high few wide =
-    let cluster = encode_utf8 c in
-    split_first text cluster rest columns u v whole (lead_high c (omega (arith, high))) few
-    (λ w. ap (str_width false) (only_character cluster [] c w (sym (append-nil cluster)) (omega arith)) ∙ wide)
-
 syllable_kinds : (c : ℕ) → in_ranges syllables c ≡ true → is_wide (kind c) ≡ true
 unfolding is_wide tables kind_stepped
 syllable_kinds = throughout is_wide kind kind_stepped syllables refl refl
@@ -190,8 +182,11 @@ syllable_kinds = throughout is_wide kind kind_stepped syllables refl refl
 pub syllable_split : (text rest : List ℕ) (c : ℕ) → IsUtf8 text → IsUtf8 rest → text ≡ encode_utf8 c ++ rest → in_ranges syllables c ≡ true
     → ends_syllable (chars rest) ≡ true → IsWideSplit text 2 rest
 syllable_split text rest c u v whole is ends =
+    let cluster = encode_utf8 c in
     let high = block_above syllables c refl is in
-    wide_first text rest c 2 u v whole high (omega arith) (width_of_one c 2 high (wide-is c (kind c) (syllable_kinds c is)))
+    let wide = width_of_one c 2 high (wide-is c (kind c) (syllable_kinds c is)) in
+    split_first text cluster rest 2 u v whole (lead_high c (omega (arith, high))) (omega arith)
+    (λ w. ap (str_width false) (only_character cluster [] c w (sym (append-nil cluster)) (omega arith)) ∙ wide)
     (first_syllable text rest c u v whole is ends)
 
 chars_of : (text cs : List ℕ) → IsUtf8 text → text ≡ encode_utf8_all cs → chars text ≡ cs
@@ -306,26 +301,25 @@ conjunct_is_added linker letter first links second consonant =
       adds = λ front. str_width-append_simple false front (linker ∷ letter ∷ []) simple ∙ ap (λ n. str_width false front + n) columns;
     }
 
+-- one kind, of all
+is_kind : Kind → Kind → Bool
+is_kind wanted k = eqb (number_of_kind wanted) (number_of_kind k)
+
+kind_is : (wanted : Kind) (c : ℕ) → kind_from_number (number_of_kind wanted) ≡ wanted → is_kind wanted (kind c) ≡ true → kind c ≡ wanted
+unfolding is_kind kind_number
+kind_is wanted c back same = sym (kind_from_number-kind_number c _ (eqb-true _ _ same)) ∙ back
+
 -- the linker of Khmer and a subscript add none
-is_khmer : Kind → Bool
-is_khmer kinds.KhmerLetter = true
-is_khmer _ = false
-
-khmer-is : (k : Kind) → is_khmer k ≡ true → k ≡ kinds.KhmerLetter
-unfolding is_khmer
-khmer-is kinds.KhmerLetter h = refl
-khmer-is _ h = absurd (false≢true h)
-
 khmer_linker : (grapheme_cluster_break 0x17D2 ≡ Extend) × (indic_conjunct_break 0x17D2 ≡ conjuncts.Linker)
 unfolding grapheme_cluster_break indic_conjunct_break ucd_breaks ucd_derived tables
 khmer_linker = (refl, refl)
 
-khmer_facts : (c : ℕ) → in_ranges khmer_subscripts c ≡ true → (is_consonant (indic_conjunct_break c) && (is_other (grapheme_cluster_break c) && is_khmer (kind c))) ≡ true
-unfolding is_khmer tables ucd_breaks ucd_derived kind_stepped
+khmer_facts : (c : ℕ) → in_ranges khmer_subscripts c ≡ true → (is_consonant (indic_conjunct_break c) && (is_other (grapheme_cluster_break c) && is_kind kinds.KhmerLetter (kind c))) ≡ true
+unfolding is_kind tables ucd_breaks ucd_derived kind_stepped
 khmer_facts =
-    throughout (λ is. is) (λ c. is_consonant (indic_conjunct_break c) && (is_other (grapheme_cluster_break c) && is_khmer (kind c)))
-    (zip_stepped (λ v is. is_consonant v && is) indic_conjunct_break (λ c. is_other (grapheme_cluster_break c) && is_khmer (kind c)) indic_conjunct_break_stepped
-    (zip_stepped (λ g k. is_other g && is_khmer k) grapheme_cluster_break kind grapheme_cluster_break_stepped kind_stepped))
+    throughout (λ is. is) (λ c. is_consonant (indic_conjunct_break c) && (is_other (grapheme_cluster_break c) && is_kind kinds.KhmerLetter (kind c)))
+    (zip_stepped (λ v is. is_consonant v && is) indic_conjunct_break (λ c. is_other (grapheme_cluster_break c) && is_kind kinds.KhmerLetter (kind c)) indic_conjunct_break_stepped
+    (zip_stepped (λ g k. is_other g && is_kind kinds.KhmerLetter k) grapheme_cluster_break kind grapheme_cluster_break_stepped kind_stepped))
     khmer_subscripts refl refl
 
 linker_read : step false 0x17D2 (1, before KhmerLetter) ≡ (0, plain)
@@ -346,8 +340,8 @@ pub subscript_is_added : (linker letter : ℕ) → linker ≡ 0x17D2 → in_rang
 unfolding str_width
 subscript_is_added linker letter links inside =
     let facts = and_parts (is_consonant (indic_conjunct_break letter)) _ (khmer_facts letter inside) in
-    let last = and_parts (is_other (grapheme_cluster_break letter)) (is_khmer (kind letter)) facts.1 in
-    let read = subscript_read letter (block_above khmer_subscripts letter refl inside) (khmer-is _ last.1) in
+    let last = and_parts (is_other (grapheme_cluster_break letter)) _ facts.1 in
+    let read = subscript_read letter (block_above khmer_subscripts letter refl inside) (kind_is kinds.KhmerLetter letter refl last.1) in
     let is : IsConjunct 0x17D2 letter = record {
       extend = khmer_linker.0;
       links = khmer_linker.1;
@@ -402,18 +396,9 @@ pub base_by_table : (c columns : ℕ) → 0xA0 < c → stands_alone c ≡ true �
 base_by_table c columns high alone few is = base_front c columns alone (omega (arith, high)) few (own_columns c columns high is)
 
 -- an emoji with a skin tone takes two
-is_modifier : Kind → Bool
-is_modifier kinds.EmojiModifier = true
-is_modifier _ = false
-
-tone_kinds : (c : ℕ) → in_ranges skin_tones c ≡ true → is_modifier (kind c) ≡ true
-unfolding is_modifier tables kind_stepped
-tone_kinds = throughout is_modifier kind kind_stepped skin_tones refl refl
-
-modifier-is : (k : Kind) → is_modifier k ≡ true → k ≡ kinds.EmojiModifier
-unfolding is_modifier
-modifier-is kinds.EmojiModifier h = refl
-modifier-is _ h = absurd (false≢true h)
+tone_kinds : (c : ℕ) → in_ranges skin_tones c ≡ true → is_kind kinds.EmojiModifier (kind c) ≡ true
+unfolding is_kind tables kind_stepped
+tone_kinds = throughout (is_kind kinds.EmojiModifier) kind kind_stepped skin_tones refl refl
 
 tone_facts : (c : ℕ) → in_ranges skin_tones c ≡ true → is_plain_mark c ≡ true
 unfolding plain_stepped tables ucd_breaks ucd_derived
@@ -424,7 +409,7 @@ unfolding str_width step past_emoji alone in_context past_selectors joins
 toned_columns c d picture base tone =
     let high = block_above picture_blocks c refl picture in
     let above = block_above skin_tones d refl tone in
-    let last : kind d ≡ kinds.EmojiModifier = modifier-is (kind d) (tone_kinds d tone) in
+    let last : kind d ≡ kinds.EmojiModifier = kind_is kinds.EmojiModifier d refl (tone_kinds d tone) in
     grind (arith, nat_tests, high, above, last, base)
 
 pub toned_front : (c d : ℕ) → in_ranges picture_blocks c ≡ true → is_emoji_modifier_base c ≡ true → in_ranges skin_tones d ≡ true → IsFront (c ∷ d ∷ []) 2
@@ -479,18 +464,9 @@ selected_front c d alone base selector =
 
 -- a flag takes two
 
-is_half : Kind → Bool
-is_half kinds.RegionalIndicator = true
-is_half _ = false
-
-half_kinds : (c : ℕ) → in_ranges flag_letters c ≡ true → is_half (kind c) ≡ true
-unfolding is_half tables kind_stepped
-half_kinds = throughout is_half kind kind_stepped flag_letters refl refl
-
-half-is : (k : Kind) → is_half k ≡ true → k ≡ kinds.RegionalIndicator
-unfolding is_half
-half-is kinds.RegionalIndicator h = refl
-half-is _ h = absurd (false≢true h)
+half_kinds : (c : ℕ) → in_ranges flag_letters c ≡ true → is_kind kinds.RegionalIndicator (kind c) ≡ true
+unfolding is_kind tables kind_stepped
+half_kinds = throughout (is_kind kinds.RegionalIndicator) kind kind_stepped flag_letters refl refl
 
 half_range : (c : ℕ) → in_ranges flag_letters c ≡ true → (0x1F1E6 ≤ c) × (c ≤ 0x1F1FF)
 unfolding in_ranges
@@ -501,7 +477,7 @@ unfolding str_width step past_emoji alone in_context past_selectors joins
 flag_columns c d first second =
     let left = half_range c first in
     let right = half_range d second in
-    let last : kind d ≡ kinds.RegionalIndicator = half-is (kind d) (half_kinds d second) in
+    let last : kind d ≡ kinds.RegionalIndicator = kind_is kinds.RegionalIndicator d refl (half_kinds d second) in
     grind (arith, nat_tests, left.0, left.1, right.0, right.1, last)
 
 pub flag_front : (c d : ℕ) → in_ranges flag_letters c ≡ true → in_ranges flag_letters d ≡ true → IsFront (c ∷ d ∷ []) 2
