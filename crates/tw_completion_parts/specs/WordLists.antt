@@ -1,10 +1,9 @@
 -- Words that complete what is begun, up to a delimiter.
-use Rattle.std.specs.Prelude.{ℕ, ◌-◌, ◌==◌, Bool, true, false, not, ◌&&◌, List, length, take, drop, filter, map, nat_le, nat_lt, string_bytes}
+use Rattle.std.specs.Prelude.{ℕ, ◌-◌, ◌==◌, Bool, not, ◌&&◌, List, length, take, drop, map, nat_lt, string_bytes}
 use Rattle.std.specs.List.{list_any, suffix_len}
-use Rattle.std.specs.Str.{str_eq_ignore_ascii_case}
 use Rattle.tw_host.specs.CandidateView.{CandidateView}
-use Rattle.tw_hosts.specs.WordCompletion.{word_candidate}
-use Rattle.tw_hosts.specs.Words.{begins_with, end_row}
+use Rattle.tw_hosts.specs.WordCompletion.{words_from}
+use Rattle.tw_hosts.specs.Words.{end_row}
 use Rattle.tw_line.specs.Cut.{Cut}
 use Rattle.tw_completion_parts.specs.declared.word_lists.WordList.{WordList}
 
@@ -37,15 +36,7 @@ before_word delimiters text = take (word_start delimiters text) text
 abbrev pub row_before : Cut → List ℕ
 row_before cut = end_row (take cut.cursor cut.line)
 
--- whether a word begins with a text, where the case of ASCII letters does not count, or does
-abbrev pub begins_in : Bool → List ℕ → List ℕ → Bool
-begins_in true text word = nat_le (length text) (length word) && str_eq_ignore_ascii_case text (take (length text) word)
-begins_in false text word = begins_with text word
-
--- the words of a list that begin with a text, each for the bytes that the text has before a cursor
-abbrev pub words_from : WordListView → ℕ → List ℕ → List CandidateView
-words_from list cursor text = map (word_candidate (cursor - length text) cursor) (filter (begins_in list.ignores_case text) list.words)
-
 -- what completes the word before the cursor
 abbrev pub listed_candidates : WordListView → Cut → List CandidateView
-listed_candidates list cut = words_from list cut.cursor (begun_part list.delimiters (row_before cut))
+listed_candidates list cut =
+    words_from list.ignores_case list.words (begun_part list.delimiters (row_before cut)) cut.cursor

@@ -1,25 +1,18 @@
 //! What all of several words begin with.
 
-ghost use Rattle.std.specs.Prelude.{◌≡◌, ◌<◌, ◌≤◌, ℕ, eqb, false, map, string_bytes, take, true};
-ghost use Rattle.std.specs.List.{starts_with};
-ghost use Rattle.std.specs.Str.{IsCharBoundary};
+ghost use Rattle.std.specs.Prelude.{◌≡◌, eqb, map, string_bytes};
+ghost use Rattle.std.specs.List.{common_prefix_len};
 ghost use Rattle.tw_completion_parts.specs.Beginnings.{common_beginning};
 
-/// Returns the greatest boundary of `text`, at most `limit`, up to which `other` is the same.
-#[tactic(auto, using(std::proofs::lemmas::Grind::common_steps, std::proofs::lemmas::Str::Pattern::starts_text))]
-fn shared_len(text: &str, limit: usize, other: &str) -> usize
-    requires { IsCharBoundary text.now limit }
-    ensures within { result ≤ limit }
-    ensures boundary { IsCharBoundary text.now result }
-    ensures same { starts_with eqb other.now (take result text.now) ≡ true }
-    ensures longest { (n : ℕ) → result < n → n ≤ limit → IsCharBoundary text.now n
-        → starts_with eqb other.now (take n text.now) ≡ false }
+/// Returns how many bytes two texts have in common before they differ.
+fn shared_len(text: &[u8], other: &[u8]) -> usize
+    ensures { result ≡ common_prefix_len eqb text.now other.now }
 {
-    let mut end = limit;
-    while end > 0 && !other.starts_with(&text[..end]) {
-        end = text.floor_char_boundary(end - 1);
+    let mut len = 0;
+    while len < text.len() && len < other.len() && text[len] == other[len] {
+        len += 1;
     }
-    end
+    len
 }
 
 /// Returns the longest text in whole characters with which each of the words begins. It is empty if there is no word.
@@ -30,9 +23,9 @@ pub fn common_beginning<'words>(words: &'words [String]) -> &'words str
         return "";
     };
     let text = first.as_str();
-    let mut end = text.len();
-    for other in others {
-        end = shared_len(text, end, other.as_str());
-    }
-    &text[..end]
+    let bytes = text.as_bytes();
+    let end = others.iter().fold(bytes.len(), |end: usize, other| {
+        end.min(shared_len(bytes, other.as_bytes()))
+    });
+    &text[..text.floor_char_boundary(end)]
 }

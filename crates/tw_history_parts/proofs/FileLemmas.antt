@@ -1,15 +1,17 @@
 -- Lines that are written, and what is read of them.
-use Rattle.std.proofs.Common.{◌≡◌, ℕ, suc, ◌+◌, ◌<◌, Bool, true, false, List, [], ◌∷◌, ◌++◌, length, take, Option, Some, None, refl, sym, ap, subst, ◌∙◌, append_assoc, append-nil, length-append, arith, ⊎_elim, inl, inr}
+use Rattle.std.proofs.Common.{◌≡◌, ℕ, suc, ◌+◌, ◌-◌, ◌<◌, Bool, true, false, List, [], ◌∷◌, ◌++◌, length, get_or, take, Option, Some, None, refl, sym, ap, subst, ◌∙◌, append_assoc, append-nil, length-append, arith, ⊎_elim, inl, inr}
 use Rattle.std.specs.Prelude.{◌==◌, ◌⊎◌}
 use Rattle.std.specs.List.{cons_option, filter_map}
 use Rattle.std.specs.Option.{option_to_list}
 use Rattle.std.specs.Str.{is_utf8}
 use Rattle.std.proofs.lemmas.Bool.{eqb-true, not-false}
 use Rattle.std.proofs.lemmas.Bool.Decides.{nat_tests}
-use Rattle.std.proofs.lemmas.List.Elements.{filter_map-append}
-use Rattle.tw_history_parts.specs.FileLaws.{AreTexts, BeginningIsRead, DamageStaysAlone, ResumedAreRead, WrittenAreRead}
+use Rattle.std.proofs.lemmas.List.{take_all, take_more}
+use Rattle.std.proofs.lemmas.Option.{slice_get-get_or}
+use Rattle.std.proofs.lemmas.List.Elements.{All-head, All-tail, filter_map-append}
+use Rattle.tw_history_parts.specs.FileLaws.{BeginningIsRead, DamageStaysAlone, ResumedAreRead, WrittenAreRead}
 use Rattle.tw_history_parts.specs.HistoryFile.{ended, escaped, escaped_byte, is_cut_off, line_of, lines_in, unescaped, whole_lines, with_byte, with_byte_in_front, written_line, written_lines}
-use Rattle.tw_history_parts.proofs.ReadingLemmas.{cut_off-behind, lines_cut}
+use Rattle.tw_history_parts.proofs.ReadingLemmas.{lines_cut}
 
 -- ---- one byte
 
@@ -50,16 +52,10 @@ lines_in-cons line rest text =
     ∙ ap (filter_map line_of) (ended_escaped line rest)
     ∙ ap (λ found. cons_option found (lines_in rest)) (line_of_escaped line text)
 
-first_text : (line : List ℕ) (lines : List (List ℕ)) → AreTexts (line ∷ lines) → is_utf8 line ≡ true
-first_text line lines texts = texts 0 [] (omega arith)
-
-other_texts : (line : List ℕ) (lines : List (List ℕ)) → AreTexts (line ∷ lines) → AreTexts lines
-other_texts line lines texts k d low = texts (suc k) d (omega (arith, low))
-
 pub written_are_read : WrittenAreRead
 written_are_read [] texts = refl
 written_are_read (line ∷ lines) texts =
-    lines_in-cons line (written_lines lines) (first_text line lines texts) ∙ ap (λ rest. line ∷ rest) (written_are_read lines (other_texts line lines texts))
+    lines_in-cons line (written_lines lines) (All-head (λ line. is_utf8 line ≡ true) line lines texts) ∙ ap (λ rest. line ∷ rest) (written_are_read lines (All-tail (λ line. is_utf8 line ≡ true) line lines texts))
 
 -- ---- a beginning
 
@@ -103,11 +99,11 @@ beginning_is_read [] (b ∷ bytes) more texts e = absurd (cc)
 beginning_is_read (line ∷ lines) bytes more texts e =
     ⊎_elim
     (λ whole.
-    let rest = beginning_is_read lines whole.0 more (other_texts line lines texts) whole.2 in
+    let rest = beginning_is_read lines whole.0 more (All-tail (λ line. is_utf8 line ≡ true) line lines texts) whole.2 in
     let long : length bytes ≡ length (written_line line) + length whole.0 = ap length whole.1 ∙ length-append (written_line line) whole.0 in
     let next : suc (rest.0 + 1) ≡ suc rest.0 + 1 = omega arith in (
       suc rest.0,
-      ap lines_in whole.1 ∙ lines_in-cons line whole.0 (first_text line lines texts) ∙ ap (λ l. line ∷ l) rest.1,
+      ap lines_in whole.1 ∙ lines_in-cons line whole.0 (All-head (λ line. is_utf8 line ≡ true) line lines texts) ∙ ap (λ l. line ∷ l) rest.1,
       omega (arith, long, rest.2, length-append (written_line line) (written_lines (take rest.0 lines))),
       λ low. subst (λ k. length bytes < length (written_lines (take k (line ∷ lines)))) next
           (omega (arith, long, rest.3 (omega (arith, low)), length-append (written_line line) (written_lines (take (rest.0 + 1) lines)))),
@@ -157,11 +153,12 @@ damage_stays_alone before text after free =
 -- a file whose last text is not cut off is empty, or a line feed ends it
 not_cut_off : (bytes : List ℕ) → is_cut_off bytes ≡ false → (bytes ≡ []) ⊎ ((before : List ℕ) × (bytes ≡ before ++ 10 ∷ []))
 not_cut_off [] e = inl refl
-not_cut_off (b ∷ []) e = inr ([], ap (λ c. c ∷ []) (eqb-true b 10 (not-false (b == 10) e)))
-not_cut_off (b ∷ c ∷ bytes) e =
-    ⊎_elim
-    (λ empty. absurd (cc))
-    (λ ends. inr (b ∷ ends.0, ap (λ l. b ∷ l) ends.1)) (not_cut_off (c ∷ bytes) (sym (cut_off-behind (b ∷ []) c bytes) ∙ e))
+not_cut_off (b ∷ bytes) e =
+    let n = length bytes in
+    let at : length (b ∷ bytes) - 1 ≡ n = omega arith in
+    let last = rw (at, slice_get-get_or (b ∷ bytes) n 0 (omega arith)) at e in
+    let whole = sym (take_all (n + 1) (b ∷ bytes) (omega arith)) ∙ take_more (b ∷ bytes) n 0 (omega arith) in
+    inr (take n (b ∷ bytes), whole ∙ ap (λ c. take n (b ∷ bytes) ++ c ∷ []) (eqb-true (get_or (b ∷ bytes) n 0) 10 (not-false _ last)))
 
 ended_ends : (bytes : List ℕ) (x : Bool) → is_cut_off bytes ≡ x → (ended bytes ≡ []) ⊎ ((before : List ℕ) × (ended bytes ≡ before ++ 10 ∷ []))
 ended_ends bytes true e = inr (bytes, rw e refl)

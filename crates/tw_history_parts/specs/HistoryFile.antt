@@ -1,6 +1,6 @@
 -- How the lines of a history stand in a file.
-use Rattle.std.specs.Prelude.{◌≡◌, ◌==◌, ◌-◌, ℕ, Bool, true, false, not, if◌then◌else◌, List, [], ◌∷◌, ◌++◌, length, Option, Some, None, option_map, slice_get, Contains}
-use Rattle.std.specs.List.{filter_map, flat_map}
+use Rattle.std.specs.Prelude.{◌≡◌, ◌==◌, ◌+◌, ◌-◌, ℕ, Bool, true, false, not, if◌then◌else◌, List, [], ◌∷◌, ◌++◌, length, Option, Some, None, is_none, slice_get, Contains}
+use Rattle.std.specs.List.{count_by, filter_map, flat_map}
 use Rattle.std.specs.Str.{is_utf8}
 use Rattle.tw_history_parts.specs.declared.file.Unread.{Unread}
 use Rattle.tw_history_parts.specs.declared.file.Unread.TheVariants.{Lines}
@@ -39,12 +39,6 @@ unescaped_behind false (b ∷ text) = if b == 92 then unescaped_behind true text
 
 abbrev pub unescaped : List ℕ → Option (List ℕ)
 unescaped text = unescaped_behind false text
-
--- the bytes that were understood so far, and then what the text after them stands for, after a backslash or not; none
--- where a backslash stood before another byte
-abbrev pub understood : List ℕ → Option Bool → List ℕ → Option (List ℕ)
-understood bytes None text = None
-understood bytes (Some behind) text = option_map (λ rest. bytes ++ rest) (unescaped_behind behind text)
 
 -- bytes that are a text
 abbrev pub if_text : List ℕ → Option (List ℕ)
@@ -85,9 +79,13 @@ is_cut_off bytes = is_no_feed (slice_get bytes (length bytes - 1))
 abbrev pub ended : List ℕ → List ℕ
 ended bytes = if is_cut_off bytes then bytes ++ 10 ∷ [] else bytes
 
--- how many texts of a file are no lines, the one that is cut off among them
+-- how many texts of a file that a line feed ends are no lines
+abbrev pub lost_lines : List ℕ → ℕ
+lost_lines bytes = count_by (λ text. is_none (line_of text)) (whole_lines bytes)
+
+-- and with the one that is cut off
 abbrev pub lost_in : List ℕ → ℕ
-lost_in bytes = length (whole_lines (ended bytes)) - length (lines_in bytes)
+lost_in bytes = lost_lines bytes + (if is_cut_off bytes then 1 else 0)
 
 -- what of a file is not read
 abbrev pub unread_lines : List ℕ → Option Unread

@@ -1,7 +1,7 @@
 -- A history that keeps the newest lines, and no line twice if it is unique.
-use Rattle.std.specs.Prelude.{◌≡◌, ◌≢◌, ◌==◌, ℕ, Bool, true, eqb, not, List, [], ◌∷◌, ◌++◌, Option, Some, None, if◌then◌else◌}
+use Rattle.std.specs.Prelude.{◌≡◌, ◌≢◌, ◌==◌, ℕ, Bool, true, eqb, not, List, [], ◌∷◌, ◌++◌, if◌then◌else◌}
 use Rattle.std.specs.Cmp.Lexicographic.{pointwise}
-use Rattle.std.specs.List.{AllPairs, filter, remove}
+use Rattle.std.specs.List.{AllPairs, filter}
 use Rattle.tw_line.specs.Bounded.{newest}
 use Rattle.tw_line.specs.HistoryAdditions.{is_line}
 use Rattle.tw_line.specs.NearestMatch.{last_line}
@@ -24,17 +24,12 @@ abbrev pub is_another : List ℕ → List ℕ → Bool
 is_another line older = not (pointwise eqb older line)
 
 -- the lines that stay where one is added: the others, if none is to stand twice
-abbrev pub older_lines : RecentLines → List ℕ → List (List ℕ)
-older_lines h line = if h.is_unique then filter (is_another line) h.lines else h.lines
+abbrev pub older_lines : Bool → List ℕ → List (List ℕ) → List (List ℕ)
+older_lines is_unique line lines = if is_unique then filter (is_another line) lines else lines
 
 -- the newest of these and the line; one that is the last line already changes nothing
 abbrev pub with_recent : RecentLines → List ℕ → RecentLines
-with_recent h line = if is_line line (last_line h.lines) then h else record h { lines = newest h.limit (older_lines h line ++ line ∷ []) }
-
--- the lines without the one at an index, if there is one
-abbrev pub lines_without : Option ℕ → List (List ℕ) → List (List ℕ)
-lines_without None lines = lines
-lines_without (Some at) lines = remove lines at
+with_recent h line = if is_line line (last_line h.lines) then h else record h { lines = newest h.limit (older_lines h.is_unique line h.lines ++ line ∷ []) }
 
 -- no line stands twice
 abbrev pub AreUnique : List (List ℕ) → Type 0

@@ -38,7 +38,7 @@ pub fn is_cut_off(bytes: &[u8]) -> bool
 /// Adds the lines of a file to a history, the oldest first, and returns how many of its texts are no lines: the last
 /// one if no line feed ends it, those with a backslash before another byte than a backslash or an `n`, and those that
 /// are not UTF-8. They are passed over. If memory is lacking, the first lines may have been added.
-#[tactic(auto, using(crate::proofs::ReadingLemmas::passes_nothing, crate::proofs::ReadingLemmas::counts_nothing, crate::proofs::ReadingLemmas::counts_text, crate::proofs::ReadingLemmas::counts_line, crate::proofs::ReadingLemmas::counts_all, crate::proofs::ReadingLemmas::counts_cut_off, crate::proofs::ReadingLemmas::passes_text, crate::proofs::ReadingLemmas::passes_line, crate::proofs::ReadingLemmas::passes_all, crate::proofs::ReadingLemmas::passes_some))]
+#[tactic(auto, using(crate::proofs::ReadingLemmas::passes_nothing, crate::proofs::ReadingLemmas::passes_all, crate::proofs::ReadingLemmas::passes_some, crate::proofs::ReadingLemmas::passes_text, crate::proofs::ReadingLemmas::passes_line, crate::proofs::ReadingLemmas::lost_cut, crate::proofs::ReadingLemmas::lost_none))]
 pub fn read_lines<L: History>(
     alloc: Global,
     bytes: &[u8],
@@ -58,7 +58,7 @@ pub fn read_lines<L: History>(
         }
         rest = after;
     }
-    if !rest.is_empty() {
+    if is_cut_off(bytes) {
         lost += 1;
     }
     Ok(lost)

@@ -1,7 +1,7 @@
 //! How a line stands in a file.
 
-ghost use Rattle.std.specs.Prelude.{◌≡◌, ◌++◌, ◌∷◌, ◌<◌, [], Contains, IfOk, IfSome, List, OnOk, None, Some, ℕ, false, length, option_map, string_bytes};
-ghost use Rattle.tw_history_parts.specs.HistoryFile.{IsCutAtFeed, escaped_byte, if_text, line_of, understood, unescaped, written_line};
+ghost use Rattle.std.specs.Prelude.{◌≡◌, ◌++◌, ◌<◌, [], Contains, IfOk, IfSome, OnOk, None, Some, length, option_map, string_bytes};
+ghost use Rattle.tw_history_parts.specs.HistoryFile.{IsCutAtFeed, escape_of, escaped_byte, if_text, line_of, unescaped, with_byte, written_line};
 
 use std::alloc::{AllocError, Global};
 
@@ -40,27 +40,31 @@ pub fn split_line(bytes: &[u8]) -> Option<(&[u8], &[u8])>
     Some((&bytes[..end], &bytes[end + 1..]))
 }
 
-/// Adds a byte that is itself: the next one does not stand after a backslash.
-fn push_plain(bytes: &mut Vec<u8>, byte: u8) -> Result<Option<bool>, AllocError>
-    ensures behind { IfOk result (λ behind. behind ≡ Some false) }
-    ensures bytes { OnOk result (bytes.new.items ≡ bytes.old.items ++ byte ∷ []) }
+/// Returns the byte that a backslash and this byte stand for.
+fn escape_of(byte: u8) -> Option<u8>
+    ensures { result ≡ escape_of byte }
 {
-    bytes.push(byte)?;
-    Ok(Some(false))
+    match byte {
+        b'\\' => Some(b'\\'),
+        b'n' => Some(b'\n'),
+        _ => None,
+    }
 }
 
-/// Adds what a byte stands for, after a backslash or not, and tells whether the next one stands after a backslash;
-/// none where a backslash stands before another byte.
-fn push_meant(bytes: &mut Vec<u8>, escapes: bool, byte: u8) -> Result<Option<bool>, AllocError>
-    ensures { (text : List ℕ) → IfOk result (λ behind. understood bytes.new.items behind text
-        ≡ understood bytes.old.items (Some escapes) (byte ∷ text)) }
+/// Returns the first byte that a text stands for, and the text after it. There is none in an empty text, and none if a
+/// backslash stands before another byte or at the end.
+fn split_byte(text: &[u8]) -> Option<(u8, &[u8])>
+    ensures some { IfSome result (λ parts.
+        unescaped text.now ≡ with_byte (Some parts.0) (unescaped parts.1.now)) }
+    ensures shorter { IfSome result (λ parts. length parts.1.now < length text.now) }
+    ensures none { result ≡ None → 0 < length text.now → unescaped text.now ≡ None }
 {
-    match (escapes, byte) {
-        (false, b'\\') => Ok(Some(true)),
-        (false, _) => push_plain(bytes, byte),
-        (true, b'\\') => push_plain(bytes, b'\\'),
-        (true, b'n') => push_plain(bytes, b'\n'),
-        (true, _) => Ok(None),
+    match text.split_first()? {
+        (b'\\', escape) => {
+            let (byte, rest) = escape.split_first()?;
+            Some((escape_of(*byte)?, rest))
+        }
+        (byte, rest) => Some((*byte, rest)),
     }
 }
 
@@ -70,14 +74,12 @@ fn unescape(alloc: Global, text: &[u8]) -> Result<Option<Vec<u8>>, AllocError>
     ensures { IfOk result (λ bytes. option_map (λ bytes. bytes.items) bytes ≡ unescaped text.now) }
 {
     let mut bytes = Vec::new(alloc);
-    let mut escapes = false;
-    for byte in text {
-        match push_meant(&mut bytes, escapes, *byte)? {
-            Some(behind) => escapes = behind,
-            None => return Ok(None),
-        }
+    let mut rest = text;
+    while let Some((byte, after)) = split_byte(rest) {
+        bytes.push(byte)?;
+        rest = after;
     }
-    Ok(if escapes { None } else { Some(bytes) })
+    Ok(rest.is_empty().then_some(bytes))
 }
 
 /// Returns bytes as a text, if they are UTF-8.

@@ -1,12 +1,12 @@
 //! A history that keeps the newest lines.
 
 ghost use Rattle.std.specs.Cow.{IsBorrowedStr, cow_str_bytes};
-ghost use Rattle.std.specs.List.{All, remove};
-ghost use Rattle.std.specs.Prelude.{◌≡◌, ◌≢◌, ◌≤◌, ◌<◌, ◌==◌, ◌++◌, ◌∷◌, [], IfOk, IfSome, IsCharBoundary, IsOkAnd, None, OnErr, OnOk, Some, false, if◌then◌else◌, length, option_map, slice_get, string_bytes, true};
+ghost use Rattle.std.specs.Prelude.{◌≡◌, ◌≤◌, ◌<◌, ◌==◌, ◌++◌, ◌∷◌, [], IfOk, IfSome, IsCharBoundary, IsOkAnd, OnErr, OnOk, Some, false, if◌then◌else◌, length, option_map, slice_get, string_bytes, true};
+ghost use Rattle.std.specs.VecDeque.{deque_capacity, deque_len};
 ghost use Rattle.tw_line.specs.Bounded.{lines_of_entries, newest};
 ghost use Rattle.tw_line.specs.HistoryAdditions.{is_line, match_view};
-ghost use Rattle.tw_line.specs.NearestMatch.{last_line, line_at, nearest_match};
-ghost use Rattle.tw_history_parts.specs.Recent.{no_recent_lines, older_lines, with_recent, lines_without};
+ghost use Rattle.tw_line.specs.NearestMatch.{last_line, nearest_match};
+ghost use Rattle.tw_history_parts.specs.Recent.{no_recent_lines, older_lines, with_recent};
 
 use std::alloc::{AllocError, Global};
 use std::borrow::CowStr;
@@ -42,27 +42,37 @@ impl Model for RecentHistory {
         × (h.is_unique ≡ true → AreUnique (map string_bytes h.entries.items)) };
 }
 
-/// Appends an entry, and takes the one away that it doubles, or the first one if there are more than `limit` then.
-#[tactic(auto, using(crate::proofs::RecentLemmas::pushed_double))]
+/// Takes the entries away that are this line, if none is to stand twice.
+fn make_way(entries: &mut VecDeque<String>, is_unique: bool, line: &str)
+    ensures lines { lines_of_entries entries.new.items
+        ≡ older_lines is_unique line.now (lines_of_entries entries.old.items) }
+    ensures fits { deque_len entries.new ≤ deque_len entries.old }
+    ensures capacity { deque_capacity entries.new ≡ deque_capacity entries.old }
+{
+    if is_unique {
+        entries.retain(|older| older.as_str() != line);
+    }
+}
+
+/// Appends an entry. The first one goes away if there are more than `limit` then.
 fn push_recent(
     entries: &mut VecDeque<String>,
     entry: String,
-    double: Option<HistoryIndex>,
+    is_unique: bool,
     limit: usize,
 ) -> Result<(), AllocError>
     requires fits { length entries.old.items ≤ limit }
-    requires inside { IfSome double (λ at. at < length entries.old.items) }
     ensures ok { OnOk result (lines_of_entries entries.new.items
-        ≡ newest limit (lines_without double (lines_of_entries entries.old.items)
-        ++ string_bytes entry ∷ [])) }
+        ≡ newest limit (older_lines is_unique (string_bytes entry)
+        (lines_of_entries entries.old.items) ++ string_bytes entry ∷ [])) }
     ensures fits { length entries.new.items ≤ limit }
     ensures err { OnErr result (lines_of_entries entries.new.items
         ≡ lines_of_entries entries.old.items) }
 {
-    entries.push_back(entry)?;
-    if let Some(at) = double {
-        let _double = entries.remove(at);
-    } else if entries.len() > limit {
+    entries.reserve(1)?;
+    make_way(entries, is_unique, entry.as_str());
+    entries.push_back_reserved(entry);
+    if entries.len() > limit {
         let _oldest = entries.pop_front();
     }
     Ok(())
@@ -99,34 +109,6 @@ impl RecentHistory {
         self.entries
             .back()
             .is_some_and(|last| last.as_str() == line)
-    }
-
-    /// Returns the index of a line, if it stands here.
-    #[tactic(auto, using(crate::proofs::RecentLemmas::none_more))]
-    fn index_of(&self, line: &str) -> Option<HistoryIndex>
-        ensures inside { IfSome result (λ at. at < length self.now.lines) }
-        ensures is { IfSome result (λ at. line_at self.now.lines at ≡ line.now) }
-        ensures none { result ≡ None → All (λ older. older ≢ line.now) self.now.lines }
-    {
-        for at in 0..self.line_count() {
-            if self.line(at) == line {
-                return Some(at);
-            }
-        }
-        None
-    }
-
-    /// Returns the index of the line that goes away if this one is added.
-    #[tactic(auto, using(crate::proofs::RecentLemmas::others_in))]
-    fn double_of(&self, line: &str) -> Option<HistoryIndex>
-        ensures inside { IfSome result (λ at. at < length self.now.lines) }
-        ensures others { lines_without result self.now.lines ≡ older_lines self.now line.now }
-    {
-        if self.is_unique {
-            self.index_of(line)
-        } else {
-            None
-        }
     }
 }
 
@@ -172,9 +154,8 @@ impl History for RecentHistory {
         if self.ends_with(line) {
             return Ok(());
         }
-        let double = self.double_of(line);
         let entry = String::from_str(self.alloc, line)?;
-        push_recent(&mut self.entries, entry, double, self.limit)
+        push_recent(&mut self.entries, entry, self.is_unique, self.limit)
     }
 
     /// Lends the nearest match, and reads each line on the side at most once. Takes no memory.

@@ -13,7 +13,7 @@ use crate::recent::RecentHistory;
 use std::alloc::{AllocError, Global};
 use std::borrow::CowStr;
 use std::fs::{self, File, OpenOptions};
-use std::io::{self, ErrorKind, Write};
+use std::io::{ErrorKind, Write};
 use tw_line::{History, HistoryIndex, LentLines, SearchDirection, SearchResult, SearchStyle};
 
 /// Another history, whose lines are written too, each as it is added, such as to the end of a file.
@@ -121,19 +121,6 @@ impl<L: History, W: Write + Drop> WrittenHistory<L, W> {
     }
 }
 
-/// Returns the bytes of a file, which are none if there is no file.
-fn bytes_of(rt: HostRuntime, path: &str) -> io::Result<Vec<u8>> {
-    match fs::read(&rt, path) {
-        Err(fault) if fault.kind() == ErrorKind::NotFound => Ok(Vec::new(rt.alloc())),
-        read => read,
-    }
-}
-
-/// Opens a file to write at its end. It is made if there is none.
-fn open_end(rt: HostRuntime, path: &str) -> io::Result<File> {
-    OpenOptions::new().append(true).create(true).open(&rt, path)
-}
-
 impl WrittenHistory<RecentHistory, File> {
     /// Opens the history in a file, of which the newest `limit` lines are kept in memory, at least one. The file is
     /// made if there is none, and is never cut: each line that is added is written at its end.
@@ -164,18 +151,21 @@ impl WrittenHistory<RecentHistory, File> {
         ensures unique { IfOk result (λ it. it.history.is_unique ≡ lines.is_unique) }
         ensures failed { IfOk result (λ it. it.has_failed ≡ is_none it.writer) }
     {
-        match bytes_of(rt, path) {
-            Ok(bytes) => {
-                WrittenHistory::resume(rt.alloc(), lines, &bytes, open_end(rt, path).ok())
+        let bytes = match fs::read(&rt, path) {
+            Ok(bytes) => bytes,
+            Err(fault) if fault.kind() == ErrorKind::NotFound => Vec::new(rt.alloc()),
+            Err(_) => {
+                return Ok(WrittenHistory {
+                    history: lines,
+                    writer: None,
+                    has_failed: true,
+                    unread: Some(Unread::File),
+                    alloc: rt.alloc(),
+                });
             }
-            Err(_) => Ok(WrittenHistory {
-                history: lines,
-                writer: None,
-                has_failed: true,
-                unread: Some(Unread::File),
-                alloc: rt.alloc(),
-            }),
-        }
+        };
+        let file = OpenOptions::new().append(true).create(true).open(&rt, path);
+        WrittenHistory::resume(rt.alloc(), lines, &bytes, file.ok())
     }
 }
 

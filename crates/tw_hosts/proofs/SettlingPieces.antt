@@ -1,6 +1,6 @@
 -- The pieces of a text that no terminal parts, and a measure on its way over them.
-use Rattle.std.proofs.Common.{◌≡◌, ℕ, ◌-◌, ◌<◌, ◌≤◌, Bool, true, false, not, ◌&&◌, eqb, Some, unwrap_or, List, [], ◌∷◌, ◌++◌, map, flat_map, refl, ap, sym, ◌∙◌, arith}
-use Rattle.std.specs.List.{filter, find, list_all, sum_by}
+use Rattle.std.proofs.Common.{◌≡◌, ℕ, ◌+◌, ◌≤◌, true, false, not, ◌&&◌, eqb, min, Some, unwrap_or, List, [], ◌∷◌, ◌++◌, map, flat_map, refl, ap, sym, ◌∙◌, arith}
+use Rattle.std.specs.List.{find, fold, list_all, sum_by}
 use Rattle.std.proofs.lemmas.Bool.Decides.{nat_tests}
 use Rattle.std.proofs.lemmas.List.Folds.{list_all-append}
 use Rattle.std.proofs.lemmas.List.Sums.{sum_by-cons}
@@ -12,34 +12,18 @@ use Rattle.tw_surface.specs.Extents.{place_of, reach_all, Measures}
 use Rattle.tw_surface.specs.Places.{Place, pieces, cluster_piece, next_place, end_of_pieces, places_after, is_in_range}
 use Rattle.tw_surface.proofs.DrawingLemmas.{place_of-pieces, reach_all-append}
 use Rattle.tw_surface.proofs.ExtentLemmas.{IsUnderWay}
-use Rattle.tw_surface.specs.declared.measure.Piece.TheVariants.{Wide}
 use Rattle.tw_hosts.specs.Settling.{char_columns, character_pieces, is_parted, cell_pieces, settled_pieces, needed, needed_by_text}
 
--- the characters that are left sum up to what is left of the width, and none takes all of it
-abbrev pub are_parts : ℕ → ℕ → List ℕ → Bool
-are_parts width left cs = eqb (sum_by char_columns cs) left && list_all (λ c. not (eqb (char_columns c) width)) cs
-
-pub parts_step : (width left c : ℕ) (cs : List ℕ) → (char_columns c ≡ width → ⊥) → char_columns c ≤ left
-    → are_parts width left (c ∷ cs) ≡ are_parts width (left - char_columns c) cs
-parts_step width left c cs apart fits = let sum = sum_by-cons char_columns c cs in grind (arith, nat_tests, sum)
-
-pub parts_whole : (width left c : ℕ) (cs : List ℕ) → char_columns c ≡ width → are_parts width left (c ∷ cs) ≡ false
-parts_whole width left c cs same = grind (arith, nat_tests, same)
-
-pub parts_over : (width left c : ℕ) (cs : List ℕ) → left < char_columns c → are_parts width left (c ∷ cs) ≡ false
-parts_over width left c cs over = let sum = sum_by-cons char_columns c cs in grind (arith, nat_tests, sum)
-
-pub parts_end : (width left : ℕ) → are_parts width left [] ≡ eqb left 0
-parts_end width left = grind (arith, nat_tests)
-
--- the pieces of characters, by the first one
-pub characters-cons : (c : ℕ) (cs : List ℕ) → character_pieces (c ∷ cs) ≡ character_pieces (c ∷ []) ++ character_pieces cs
-characters-cons c cs = grind (arith, nat_tests)
-
--- what the first of them needs
-pub needed_first : (widths : List ℕ) → needed (map Wide (filter (λ width. not (eqb width 0)) widths)) ≡ unwrap_or (find (λ width. not (eqb width 0)) widths) 1
+-- what the first of the characters needs
+pub needed_first : (cs : List ℕ) → needed (character_pieces cs) ≡ unwrap_or (find (λ width. not (eqb width 0)) (map char_columns cs)) 1
 needed_first [] = refl
-needed_first (width ∷ widths) = let rest = needed_first widths in grind (arith, nat_tests)
+needed_first (c ∷ cs) = let rest = needed_first cs in grind (arith, nat_tests)
+
+-- columns that are summed up to a limit
+pub saturated : (cs : List ℕ) (sum top : ℕ) → sum ≤ top → fold (λ sum c. min (sum + char_columns c) top) sum cs ≡ min (sum + sum_by char_columns cs) top
+saturated [] sum top low = omega arith
+saturated (c ∷ cs) sum top low =
+    saturated cs (min (sum + char_columns c) top) top (omega arith) ∙ omega (arith, sum_by-cons char_columns c cs)
 
 -- the places of two lists of pieces, one after the other
 places-append : (cols : ℕ) (ps more : List Piece) (p : Place) → places_after cols (ps ++ more) p ≡ places_after cols ps p ++ places_after cols more (end_of_pieces cols ps p)

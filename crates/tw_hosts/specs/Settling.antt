@@ -1,6 +1,6 @@
 -- The column that a host answers so that the editor's division finds the cell in which the text goes on.
 use Rattle.std.specs.Prelude.{ℕ, pos, ◌-ℤ◌, ◌+ℤ◌, ◌+◌, ◌-◌, ◌*◌, ◌==◌, Bool, true, false, not, ◌&&◌, leb, max, if◌then◌else◌, unwrap_or, List, [], ◌∷◌, chars, flat_map, map, take, drop}
-use Rattle.std.specs.List.{filter, list_all, sum_by}
+use Rattle.std.specs.List.{list_all, sum_by}
 use Rattle.unicode_segmentation.specs.Grapheme.{graphemes}
 use Rattle.unicode_width.specs.Width.{char_width}
 use Rattle.tw_surface.specs.declared.measure.Piece.{Piece}
@@ -16,15 +16,18 @@ abbrev pub char_columns : ℕ → ℕ
 char_columns c = unwrap_or (char_width false c) 0
 
 -- the characters of a text that take columns, each by itself
+abbrev pub character_piece : ℕ → List Piece
+character_piece c = if char_columns c == 0 then [] else Wide (char_columns c) ∷ []
+
 abbrev pub character_pieces : List ℕ → List Piece
-character_pieces cs = map Wide (filter (λ width. not (width == 0)) (map char_columns cs))
+character_pieces cs = flat_map character_piece cs
 
 -- a cluster in which several characters take columns, and together as many as it: a terminal can begin a row between
 -- them
 abbrev pub is_parted : List ℕ → Bool
 is_parted cluster =
-    (sum_by char_columns (chars cluster) == cluster_width cluster)
-    && list_all (λ c. not (char_columns c == cluster_width cluster)) (chars cluster)
+    list_all (λ c. not (char_columns c == cluster_width cluster)) (chars cluster)
+    && (sum_by char_columns (chars cluster) == cluster_width cluster)
 
 -- the pieces of a cluster, none of which a terminal parts: its characters, or itself
 abbrev pub cell_pieces : List ℕ → List Piece

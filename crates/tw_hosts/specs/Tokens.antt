@@ -1,6 +1,6 @@
 -- How a line is cut into tokens, and how each is shown. A token is a quoted text, a space, or what stands up to one of
 -- them.
-use Rattle.std.specs.Prelude.{ℕ, zero, suc, ◌==◌, ◌+◌, Bool, false, List, [], ◌∷◌, ◌++◌, length, take, drop, min, Option, Some, None, if◌then◌else◌}
+use Rattle.std.specs.Prelude.{ℕ, zero, suc, ◌==◌, ◌+◌, ◌||◌, Bool, false, List, [], ◌∷◌, ◌++◌, length, take, drop, max, min, Option, Some, None, if◌then◌else◌}
 use Rattle.std.specs.List.{position_or_len}
 use Rattle.tw_surface.specs.Defaults.{default_attributes}
 use Rattle.tw_surface.specs.declared.cell.CellAttributes.{CellAttributes}
@@ -21,9 +21,9 @@ is_quote (byte ∷ rest) = byte == 39
 abbrev pub quote_len : List ℕ → ℕ
 quote_len text = min (up_to 39 (drop 1 text) + 2) (length text)
 
--- the length of a word, or of one space
+-- the length of what stands before the first space or mark, or of one space
 abbrev pub word_len : List ℕ → ℕ
-word_len text = let end = min (up_to 32 text) (up_to 39 text) in if end == 0 then 1 else end
+word_len text = max 1 (position_or_len (λ byte. (byte == 32) || (byte == 39)) text)
 
 -- the length of the first token of a text
 abbrev pub token_len : List ℕ → ℕ

@@ -4,13 +4,13 @@
 //! the cursor's cell by division, which knows nothing of such a hole. Who knows the screen's columns and the prompt
 //! counts the holes in.
 
-ghost use Rattle.std.specs.Prelude.{◌≡◌, ◌≤◌, ◌-ℤ◌, ◌∷◌, [], chars, MatchOption, IsCharBoundary, nat_abs, true, false};
+ghost use Rattle.std.specs.Prelude.{◌≡◌, ◌≤◌, ◌-ℤ◌, [], chars, MatchOption, IsCharBoundary, nat_abs, true, false};
 ghost use Rattle.tw_surface.specs.Extents.{place_of, Measures};
 ghost use Rattle.tw_surface.specs.Places.{is_in_range, pieces, places_after};
 ghost use Rattle.tw_surface.specs.Positions.{at_least_0};
 ghost use Rattle.tw_input.specs.EventView.{event_view};
 ghost use Rattle.tw_line.specs.Cut.{cut_at};
-ghost use Rattle.tw_hosts.specs.Settling.{char_columns, character_pieces, is_parted, cell_pieces, settled_pieces, needed, needed_by_text, begins_at, columns_between, is_ahead, is_measured, is_settled, line_start, place_after_text, settled_column, settled_place};
+ghost use Rattle.tw_hosts.specs.Settling.{char_columns, character_piece, character_pieces, is_parted, cell_pieces, settled_pieces, needed, needed_by_text, begins_at, columns_between, is_ahead, is_measured, is_settled, line_start, place_after_text, settled_column, settled_place};
 ghost use Rattle.tw_hosts.specs.SettledRules.{column_on, screen_after, screen_view};
 
 use tw_input::InputEvent;
@@ -61,22 +61,18 @@ fn is_parted(cluster: &str) -> bool
     ensures { result ≡ is_parted cluster.now }
 {
     let width = cluster_width(cluster);
-    let mut left = width;
-    for c in cluster.chars() {
-        let own = char_columns(c);
-        if own == width || own > left {
-            return false;
-        }
-        left -= own;
-    }
-    left == 0
+    cluster.chars().all(|c| char_columns(c) != width)
+        && cluster
+            .chars()
+            .fold(0, |sum: usize, c| sum.saturating_add(char_columns(c)))
+            == width
 }
 
 /// Returns the extent after a character by itself.
 fn after_character(cols: usize, start: Extent, c: char) -> Option<Extent>
     requires cols { cols ≤ 65535 }
     requires range { is_in_range (place_of start) ≡ true }
-    ensures { Measures start (places_after cols (character_pieces (c ∷ [])) (place_of start)) result }
+    ensures { Measures start (places_after cols (character_piece c) (place_of start)) result }
 {
     match char_columns(c) {
         0 => Some(start),

@@ -1,10 +1,10 @@
 //! How a line is cut into tokens, and how each is shown.
 
-ghost use Rattle.std.specs.Prelude.{◌≡◌, ◌<◌, ◌++◌, true, IfOk, IsCharBoundary, List, [], OnOk, drop, length, map, string_bytes, take};
+ghost use Rattle.std.specs.Prelude.{◌≡◌, ◌<◌, ◌++◌, IfOk, List, [], OnOk, drop, length, map, string_bytes, take};
 ghost use Rattle.tw_host.specs.ElementView.{ElementView, element_view};
-ghost use Rattle.tw_hosts.specs.Tokens.{text_before, is_quote, joined_elements, quote_len, styled_or_plain, style_of, styled_text, styled_line, token_len, up_to, word_len};
+ghost use Rattle.tw_hosts.specs.Tokens.{text_before, is_quote, joined_elements, quote_len, styled_or_plain, style_of, styled_text, styled_line, token_len, word_len};
 
-use crate::words::{is_known, up_to};
+use crate::words::is_known;
 use std::alloc::{AllocError, Global};
 use tw_host::OutputElement;
 use tw_surface::CellAttributes;
@@ -25,48 +25,39 @@ fn is_quote(text: &str) -> bool
     text.starts_with('\'')
 }
 
-/// Returns the length of a quoted text in bytes: up to its second mark, or to the end.
-fn quote_len(text: &str) -> usize
-    requires some { 0 < length text.now }
-    requires quote { is_quote text.now ≡ true }
-    ensures value { result ≡ quote_len text.now }
-    ensures boundary { IsCharBoundary text.now result }
+/// Returns the length of a quoted text: up to its second mark, or to the end.
+fn quote_len(text: &[u8]) -> usize
+    requires { 0 < length text.now }
+    ensures { result ≡ quote_len text.now }
 {
-    let (_, body) = text.split_at(1);
-    let end = up_to(body, '\'');
-    if end < body.len() {
-        return end + 2;
-    }
-    text.len()
+    let body = &text[1..];
+    let end = body.iter().position(|byte| *byte == b'\'');
+    (end.unwrap_or(body.len()) + 2).min(text.len())
 }
 
-/// Returns the length in bytes of what stands before the first space or mark, or of that one byte. Only bytes up to the
-/// space are read.
-fn word_len(text: &str) -> usize
-    requires { 0 < length text.now }
-    ensures value { result ≡ word_len text.now }
-    ensures boundary { IsCharBoundary text.now result }
+/// Returns how many bytes stand before the first space or mark, and 1 for a space.
+fn word_len(text: &[u8]) -> usize
+    ensures { result ≡ word_len text.now }
 {
-    let (word, _) = text.split_at(up_to(text, ' '));
-    let end = up_to(word, '\'');
-    if end == 0 { 1 } else { end }
+    let end = text.iter().position(|byte| *byte == b' ' || *byte == b'\'');
+    end.unwrap_or(text.len()).max(1)
 }
 
 /// Returns the length of the first token of a text in bytes.
 fn token_len(text: &str) -> usize
     requires { 0 < length text.now }
-    ensures value { result ≡ token_len text.now }
-    ensures boundary { IsCharBoundary text.now result }
+    ensures { result ≡ token_len text.now }
 {
     if is_quote(text) {
-        quote_len(text)
+        quote_len(text.as_bytes())
     } else {
-        word_len(text)
+        word_len(text.as_bytes())
     }
 }
 
 /// Splits a text that is not empty after its first token: a text in single quotation marks, or up to the end if the
 /// second mark is missing; a space; or the text before one of them.
+#[tactic(auto, using(crate::proofs::TokenLemmas::token_boundary))]
 pub fn split_token(text: &str) -> (&str, &str)
     requires { 0 < length text.now }
     ensures token { result.0.now ≡ take (token_len text.now) text.now }
@@ -123,7 +114,8 @@ fn push_token(
 ) -> Result<(), AllocError>
     requires { 0 < length token.now }
     ensures { OnOk result ((more : List ElementView) →
-        map element_view elements.new.items ++ text_before (string_bytes plain.new) (joined_elements more)
+        map element_view elements.new.items
+        ++ text_before (string_bytes plain.new) (joined_elements more)
         ≡ map element_view elements.old.items ++ text_before (string_bytes plain.old)
         (joined_elements (styled_or_plain style token.now ++ more))) }
 {

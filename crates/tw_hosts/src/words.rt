@@ -5,7 +5,7 @@ ghost use Rattle.std.specs.List.{after_last};
 ghost use Rattle.tw_host.specs.CandidateView.{candidate_view};
 ghost use Rattle.tw_line.specs.Cut.{cut_at};
 ghost use Rattle.tw_hosts.specs.Tokens.{up_to};
-ghost use Rattle.tw_hosts.specs.WordCompletion.{word_completions};
+ghost use Rattle.tw_hosts.specs.WordCompletion.{begins_in, word_completions, words_from};
 ghost use Rattle.tw_hosts.specs.Words.{after_word, leading_word, is_known, end_row, last_word, texts_of};
 
 use std::alloc::{AllocError, Global};
@@ -69,9 +69,46 @@ pub fn end_row(text: &str) -> &str
     after_last(text, '\n')
 }
 
+/// Returns true if a word begins with a text. With `ignores_case`, the case of ASCII letters does not count.
+#[tactic(auto, using(std::proofs::lemmas::Grind::common_steps, std::proofs::lemmas::Str::Pattern::starts_text))]
+fn begins_in(ignores_case: bool, text: &str, word: &str) -> bool
+    ensures { result ≡ begins_in ignores_case text.now word.now }
+{
+    if !ignores_case {
+        return word.starts_with(text);
+    }
+    let text = text.as_bytes();
+    let word = word.as_bytes();
+    text.len() <= word.len() && text.eq_ignore_ascii_case(&word[..text.len()])
+}
+
+/// Returns those of the words that begin with a text, in their order, each in place of the bytes that the text has
+/// before a cursor. With `ignores_case`, the case of ASCII letters does not count.
+pub fn words_from(
+    alloc: Global,
+    words: &[String],
+    ignores_case: bool,
+    text: &str,
+    cursor: usize,
+) -> Result<Vec<CompletionCandidate>, AllocError>
+    ensures { IfOk result (λ candidates. map candidate_view candidates.items
+        ≡ words_from ignores_case (texts_of words.now) text.now cursor) }
+{
+    let start = cursor.saturating_sub(text.len());
+    let mut candidates = Vec::new(alloc);
+    for word in words {
+        if begins_in(ignores_case, text, word.as_str()) {
+            candidates.push(CompletionCandidate {
+                range: start..cursor,
+                text: word.clone()?,
+            })?;
+        }
+    }
+    Ok(candidates)
+}
+
 /// Returns the candidates for the word before a cursor, which is a boundary of the line: those of the words that begin
 /// with it, in their order, each in its place.
-#[tactic(auto, using(std::proofs::lemmas::Grind::common_steps, std::proofs::lemmas::Str::Pattern::starts_text))]
 pub fn complete_word(
     alloc: Global,
     words: &[String],
@@ -82,16 +119,5 @@ pub fn complete_word(
     ensures { IfOk result (λ candidates. map candidate_view candidates.items
         ≡ word_completions (texts_of words.now) (cut_at line.now cursor)) }
 {
-    let begun = last_word(&line[..cursor]);
-    let start = cursor - begun.len();
-    let mut candidates = Vec::new(alloc);
-    for word in words {
-        if word.as_str().starts_with(begun) {
-            candidates.push(CompletionCandidate {
-                range: start..cursor,
-                text: word.clone()?,
-            })?;
-        }
-    }
-    Ok(candidates)
+    words_from(alloc, words, false, last_word(&line[..cursor]), cursor)
 }

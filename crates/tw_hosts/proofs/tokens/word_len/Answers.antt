@@ -1,19 +1,12 @@
-use Rattle.std.proofs.Common.{◌≡◌, ◌∙◌, ap, sym, refl, false, rules, if◌then◌else◌, ◌==◌, take}
-use Rattle.tw_hosts.specs.Tokens.{up_to}
-use Rattle.tw_hosts.proofs.TokenLemmas.{behind-space, up_to-front}
+use Rattle.std.proofs.Common.{◌==◌, ◌||◌, not, arith, rules, tests}
+use Rattle.std.proofs.lemmas.Bool.Decides.{nat_tests}
+use Rattle.std.proofs.lemmas.Iterator.{YieldsList-from_slice}
+use Rattle.std.proofs.lemmas.Iterator.Search.{position_from_yields_List}
+use Rattle.std.proofs.lemmas.List.Sums.{prefix_len-le-length}
 use Rattle.tw_hosts.proofs.tokens.word_len.Goals as goal
 
-pub returns-then-end-eq0-clause-boundary : goal.returns-then-end-eq0-clause-boundary
-returns-then-end-eq0-clause-boundary c =
-    let text = c.args.text.now in
-    let front = ap (λ s. up_to 39 s) (c.split_at.ensures.front ∙ ap (λ n. take n text) c.up_to.ensures.value) in
-    let both = c.up_to-end.ensures.value ∙ front ∙ up_to-front 39 text (up_to 32 text) (rw (sym c.up_to.ensures.value) c.up_to.ensures.boundary.0) in
-    behind-space text c.utf8.text (up_to 32 text) (up_to 39 text) c.requires refl refl (sym both ∙ search rules)
-
-pub returns-else-end-eq0-clause-value : goal.returns-else-end-eq0-clause-value
-returns-else-end-eq0-clause-value c =
-    let text = c.args.text.now in
-    let front = ap (λ s. up_to 39 s) (c.split_at.ensures.front ∙ ap (λ n. take n text) c.up_to.ensures.value) in
-    let both = c.up_to-end.ensures.value ∙ front ∙ up_to-front 39 text (up_to 32 text) (rw (sym c.up_to.ensures.value) c.up_to.ensures.boundary.0) in
-    let some : (c.up_to-end.result == 0) ≡ false = search rules in
-    sym (ap (λ n. if n == 0 then 1 else n) (sym both) ∙ ap (λ b. if b then 1 else c.up_to-end.result) some)
+pub returns : goal.returns
+returns c =
+    let found = position_from_yields_List (λ byte. (byte == 32) || (byte == 39)) _ _ _ c.position-end.ensures.ran (YieldsList-from_slice c.args.text.now cc) (λ x b q k. search (rules, tests)) in
+    let low = prefix_len-le-length (λ byte. not ((byte == 32) || (byte == 39))) c.args.text.now in
+    grind (arith, nat_tests)
