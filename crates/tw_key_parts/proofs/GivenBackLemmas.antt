@@ -1,8 +1,10 @@
 -- Kills in a row, and a yank after them.
-use Rattle.std.proofs.Common.{◌≡◌, ◌≤◌, ◌-◌, ◌==◌, ℕ, List, [], ◌∷◌, ◌++◌, length, take, drop, min, max, Some, Bool, true, false, refl, ap, sym, ◌∙◌, if◌then◌else◌, arith, rules, slice_range, eq-eqb, length-append}
+use Rattle.std.proofs.Common.{◌≡◌, ◌≤◌, ◌-◌, ◌==◌, ℕ, List, [], ◌∷◌, ◌++◌, length, take, drop, min, max, Some, Bool, true, false, refl, ap, sym, ◌∙◌, arith, eq-eqb}
 use Rattle.std.specs.Prelude.{IsSomeAnd}
-use Rattle.std.proofs.lemmas.Bool.{and_from, eqb-true}
-use Rattle.std.proofs.lemmas.List.{append-nil, get_or_push, nil_from_length, take-append-drop}
+use Rattle.std.proofs.lemmas.Bool.{and_from}
+use Rattle.std.proofs.lemmas.Bool.Decides.{nat_tests}
+use Rattle.std.proofs.lemmas.Grind.{common_steps}
+use Rattle.std.proofs.lemmas.List.Folds.{drop_split}
 use Rattle.std.proofs.lemmas.Option.{slice_get-get_or}
 use Rattle.std.proofs.lemmas.Slice.Eq.{bytes_eq-Decides}
 use Rattle.std.specs.List.{remove_range}
@@ -13,11 +15,11 @@ use Rattle.tw_line.specs.Movements.{destination}
 use Rattle.tw_line.specs.declared.movements.Movement.{Movement}
 use Rattle.tw_host.specs.ActionView.{ActionView}
 use Rattle.tw_key_parts.specs.WordEdits.{passed_text}
-use Rattle.tw_key_parts.specs.Ring.{Ring, is_same_cut, kill_of, killing, leads_onward, joined_kill, newest_kill, kills_with, after_nothing, with_killed, with_killing, with_room, yank_of}
+use Rattle.tw_key_parts.specs.Ring.{Ring, is_same_cut, kill_of, killing, leads_onward, joined_kill, newest_kill, with_killed, with_killing, with_room, yank_of}
 use Rattle.tw_key_parts.specs.RingLaws.{given_back, line_before, ring_behind, KillsKeepLine, KillIsLatest, YankGivesBack}
 use Rattle.tw_key_parts.specs.declared.ring.Latest.{Latest}
 use Rattle.tw_key_parts.specs.declared.ring.Latest.TheVariants as latest
-use Rattle.tw_key_parts.proofs.KillLemmas.{parted, put_joined}
+use Rattle.tw_key_parts.proofs.KillLemmas.{put_joined}
 
 -- a cut text is the same as itself
 same_cut : (cut : Cut) → is_same_cut cut cut ≡ true
@@ -32,31 +34,23 @@ killed_ring event action m old r kills =
 
 -- the newest of kills with one more
 newest_of_more : (kills : List (List ℕ)) (text : List ℕ) → newest_kill (kills ++ text ∷ []) ≡ text
-newest_of_more kills text =
-    let last : length kills ≡ length (kills ++ text ∷ []) - 1 = omega (arith, length-append kills (text ∷ [])) in
-    get_or_push kills text [] (length (kills ++ text ∷ []) - 1) last
+newest_of_more kills text = grind (arith, common_steps)
 
 -- a list without elements
 no_elements : (xs : List ℕ) → (length xs == 0) ≡ true → xs ≡ []
-no_elements xs e = nil_from_length xs (eqb-true (length xs) 0 e)
+no_elements xs e = grind (arith, common_steps, nat_tests)
 
 -- a text with nothing more
 joined_to_nothing : (ahead : Bool) (text none : List ℕ) → none ≡ [] → joined_kill ahead text none ≡ text
-joined_to_nothing true text none e = ap (λ more. text ++ more) e ∙ append-nil text
-joined_to_nothing false text none e = ap (λ more. more ++ text) e
+joined_to_nothing ahead text none e = grind (arith, common_steps)
 
 -- nothing, with a text more
 nothing_joined : (ahead : Bool) (text : List ℕ) → joined_kill ahead [] text ≡ text
-nothing_joined true text = refl
-nothing_joined false text = append-nil text
-
--- nothing killed takes nothing out
-nothing_out : (l : List ℕ) (a b : ℕ) → a ≤ b → slice_range l a b ≡ [] → take a l ++ drop b l ≡ l
-nothing_out l a b order none = ap (λ rest. take a l ++ (rest ++ drop b l)) (sym none) ∙ parted l a b order
+nothing_joined ahead text = grind (arith, common_steps)
 
 -- nothing put in leaves a line
 nothing_in : (l : List ℕ) (at : ℕ) → (take at l ++ []) ++ drop at l ≡ l
-nothing_in l at = ap (λ front. front ++ drop at l) (append-nil (take at l)) ∙ take-append-drop at l
+nothing_in l at = grind (arith, common_steps)
 
 module _ (m : Movement) (old new : Cut) (inside : old.cursor ≤ length old.line)
     (line : new.line ≡ remove_range old.line (min old.cursor (destination m old)) (max old.cursor (destination m old)))
@@ -73,32 +67,22 @@ module _ (m : Movement) (old new : Cut) (inside : old.cursor ≤ length old.line
 
   -- where nothing was killed the line stays
   same_line : (length (passed_text m old) == 0) ≡ true → new.line ≡ old.line
-  same_line e = line ∙ nothing_out old.line _ _ (search (rules)) (no_elements (passed_text m old) e)
+  same_line e = let none = no_elements (passed_text m old) e in line ∙ grind (arith, common_steps, nat_tests, drop_split)
 
   -- by what was done last, and whether anything was killed
   kept_line : (l : Latest) (kills : List (List ℕ)) (nothing : Bool) → (length (passed_text m old) == 0) ≡ nothing
-      → line_before (if nothing then after_nothing l else latest.Kill) (if nothing then kills else kills_with l (leads_onward m old) (passed_text m old) kills) new ≡ line_before l kills old
+      → given_back (with_killed (leads_onward m old) (passed_text m old) (record { kills = kills; latest = l })) new ≡ line_before l kills old
   kept_line latest.Kill kills true e =
-      ap (λ text. (with_text text new).line) (sym (joined_to_nothing (leads_onward m old) (newest_kill kills) (passed_text m old) (no_elements (passed_text m old) e)))
-      ∙ joined_back (newest_kill kills)
+      rw e (ap (λ text. (with_text text new).line) (sym (joined_to_nothing (leads_onward m old) (newest_kill kills) (passed_text m old) (no_elements (passed_text m old) e)))
+      ∙ joined_back (newest_kill kills))
   kept_line latest.Kill kills false e =
-      ap (λ text. (with_text text new).line) (newest_of_more (take (length kills - 1) kills) _) ∙ joined_back (newest_kill kills)
-  kept_line _ kills true e = same_line e
-  kept_line _ kills false e = ap (λ text. (with_text text new).line) (newest_of_more (with_room kills) _) ∙ killed_back
-
--- what a kill leaves, by whether anything was killed
-killed_parts : (ahead : Bool) (text : List ℕ) (r : Ring) (nothing : Bool) → (length text == 0) ≡ nothing
-    → ((with_killed ahead text r).latest ≡ (if nothing then after_nothing r.latest else latest.Kill))
-    × ((with_killed ahead text r).kills ≡ (if nothing then r.kills else kills_with r.latest ahead text r.kills))
-killed_parts ahead text r true e = (rw e refl, rw e refl)
-killed_parts ahead text r false e = (rw e refl, rw e refl)
+      rw e (ap (λ text. (with_text text new).line) (newest_of_more (take (length kills - 1) kills) _) ∙ joined_back (newest_kill kills))
+  kept_line _ kills true e = rw e (same_line e)
+  kept_line _ kills false e = rw e (ap (λ text. (with_text text new).line) (newest_of_more (with_room kills) _) ∙ killed_back)
 
 pub kills_keep_line : KillsKeepLine
 kills_keep_line event action m old new r in_place =
-    let parts = killed_parts (leads_onward m old) (passed_text m old) r (length (passed_text m old) == 0) refl in
     ap (λ ring. given_back ring new) (killed_ring event action m old r in_place.kills)
-    ∙ ap (λ l. line_before l (with_killed (leads_onward m old) (passed_text m old) r).kills new) parts.0
-    ∙ ap (λ kills. line_before (if length (passed_text m old) == 0 then after_nothing r.latest else latest.Kill) kills new) parts.1
     ∙ kept_line m old new in_place.inside in_place.line in_place.cursor r.latest r.kills (length (passed_text m old) == 0) refl
 
 pub kill_is_latest : KillIsLatest
@@ -107,7 +91,7 @@ kill_is_latest event action m old r kills some =
   where
     by : (nothing : Bool) → (length (passed_text m old) == 0) ≡ nothing → (with_killed (leads_onward m old) (passed_text m old) r).latest ≡ latest.Kill
     by true e = absurd (some (no_elements (passed_text m old) e))
-    by false e = (killed_parts (leads_onward m old) (passed_text m old) r false e).0
+    by false e = rw e refl
 
 pub yank_gives_back : YankGivesBack
 yank_gives_back r cut last some = rw last (newest_back r.kills some)

@@ -11,14 +11,14 @@ use Rattle.tw_line.specs.Edits.{with_text}
 use Rattle.tw_key_parts.specs.Ring.{taken_out}
 
 -- where the text does not stand before the cursor nothing is taken out
-pub not_there : (text : List ℕ) (cut : Cut) → FindsTextSuffix text (take cut.cursor cut.line) None → None ≡ taken_out (Some text) cut
+pub not_there : (text : List ℕ) (cut : Cut) → FindsTextSuffix text (take cut.cursor cut.line) None → None ≡ taken_out cut text
 not_there text cut none =
     let e : ends_with eqb (take cut.cursor cut.line) text ≡ false = sym (ends_text false text (take cut.cursor cut.line) none) in
     rw e refl
 
 -- where it stands there, what is before it comes before what is after the cursor
 pub there : (text : List ℕ) (cut : Cut) (rest : List ℕ) → cut.cursor ≤ length cut.line → StripsSuffix (FindsTextSuffix text) (take cut.cursor cut.line) rest
-    → Some (with_text rest (cut_at (drop cut.cursor cut.line) 0)) ≡ taken_out (Some text) cut
+    → Some (with_text rest (cut_at (drop cut.cursor cut.line) 0)) ≡ taken_out cut text
 there text cut rest inside h =
     let s = take cut.cursor cut.line in
     let whole : length s ≡ cut.cursor = search (rules, inside) in

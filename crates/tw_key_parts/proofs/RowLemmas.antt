@@ -1,26 +1,25 @@
 -- The ends of a row, and steps that reach an offset.
-use Rattle.std.proofs.Common.{◌≡◌, ◌≢◌, ◌+◌, ◌-◌, ◌<◌, ◌≤◌, ◌==◌, ◌||◌, ℕ, zero, suc, Bool, true, false, List, length, get_or, min, max, slice_range, take, drop, Option, Some, None, refl, ap, sym, subst, ◌∙◌, inl, inr, ◌⊎◌, ⊎_elim, unwrap_or, if◌then◌else◌, arith}
+use Rattle.std.proofs.Common.{◌≡◌, ◌≢◌, ◌+◌, ◌-◌, ◌<◌, ◌≤◌, ◌==◌, ℕ, zero, suc, Bool, true, false, List, length, get_or, min, max, slice_range, take, drop, Option, Some, None, refl, ap, sym, subst, ◌∙◌, ⊎_elim, unwrap_or, if◌then◌else◌, arith}
 use Rattle.std.specs.List.{list_any}
+use Rattle.std.specs.Option.{option_and_then}
 use Rattle.std.proofs.lemmas.Bool.{cases_Bool, cases_lt, eq-eqb, le-leb, leb-false, leb-true, ne_eqb, true≢false}
 use Rattle.std.proofs.lemmas.Bool.Decides.{nat_tests}
 use Rattle.std.proofs.lemmas.List.{get_or-drop, get_or-take, get_or_past, length-drop, length-take-le}
 use Rattle.std.proofs.lemmas.List.Folds.{list_any_at}
-use Rattle.std.proofs.lemmas.Str.{IsCharBoundary-after_ascii, IsCharBoundary-before_ascii}
-use Rattle.std.specs.Str.{IsCharBoundary, IsUtf8}
 use Rattle.tw_surface.specs.Characters.{lf}
-use Rattle.tw_line.specs.Extremes.{NonePasses, iterate}
+use Rattle.tw_line.specs.Extremes.{iterate, least_from}
 use Rattle.tw_line.proofs.ExtremesLemmas.{greatest_below-is, least_from-is, least_from-none}
 use Rattle.tw_line.specs.Clusters.{cluster_after, cluster_before, is_cluster_boundary}
 use Rattle.tw_line.proofs.StepLawLemmas.{offsets_are_extremes}
 use Rattle.tw_line.specs.Cut.{Cut, cut_at}
-use Rattle.tw_line.specs.Movements.{after_move, destination}
+use Rattle.tw_line.specs.Movements.{destination}
 use Rattle.tw_line.specs.declared.movements.Movement.TheVariants as movement
 use Rattle.tw_input.specs.EventView.{EventView, Paste}
-use Rattle.tw_key_parts.proofs.StepLemmas.{none-up, step-more}
+use Rattle.tw_key_parts.proofs.StepLemmas.{no_step, step-more}
 use Rattle.tw_key_parts.specs.ClusterSteps.{cluster_steps}
-use Rattle.tw_key_parts.specs.RowKeys.{OneRowIsLeft, RowKillIsKept, StepsLeadThere, begins_row, brings_rows, edit_by_any, edit_of_pattern, has_reached, is_line_feed, is_reached_by, row_end, row_key, row_start, steps_to}
+use Rattle.tw_key_parts.specs.RowKeys.{OneRowIsLeft, RowKillIsKept, StepsLeadThere, begins_row, brings_rows, edit_by, edit_of_pattern, has_reached, is_line_feed, is_reached_by, edge_of_row, row_end, row_key, row_start, steps_to}
 use Rattle.tw_key_parts.specs.declared.row_keys.RowKey.{RowKey}
-use Rattle.tw_key_parts.specs.declared.row_keys.RowKey.TheVariants.{Break, Up, Down, Start, End, KillToEnd}
+use Rattle.tw_key_parts.specs.declared.row_keys.RowKey.TheVariants.{Break, ToRow, ToEdge, KillToEnd}
 use Rattle.tw_key_parts.specs.declared.steps.Way.{Way}
 use Rattle.tw_key_parts.specs.declared.steps.Way.TheVariants.{Back, Ahead}
 
@@ -33,16 +32,16 @@ module _ (line : List ℕ) where
   begins_not j some other = grind (arith, nat_tests)
 
   -- the row of an offset without a line feed before it begins with the line
-  pub start-none : (at : ℕ) → ((i : ℕ) → i < at → get_or line i 0 ≢ lf) → 0 ≡ row_start line at
+  start-none : (at : ℕ) → ((i : ℕ) → i < at → get_or line i 0 ≢ lf) → row_start line at ≡ 0
   start-none at none =
-      sym (ap (λ found. unwrap_or found 0) (greatest_below-is (begins_row line) (at + 1) 0 (omega arith) refl
-      (λ j above below. begins_not j (omega arith) (none (j - 1) (omega arith)))))
+      ap (λ found. unwrap_or found 0) (greatest_below-is (begins_row line) (at + 1) 0 (omega arith) refl
+      (λ j above below. begins_not j (omega arith) (none (j - 1) (omega arith))))
 
   -- without one from there on it ends with the line
-  pub end-none : (at : ℕ) → ((i : ℕ) → at ≤ i → i < length line → get_or line i 0 ≢ lf) → length line ≡ row_end line at
+  end-none : (at : ℕ) → ((i : ℕ) → at ≤ i → i < length line → get_or line i 0 ≢ lf) → row_end line at ≡ length line
   end-none at none =
-      sym (ap (λ found. unwrap_or found (length line)) (least_from-none (is_line_feed line) (length line - at) at
-      (λ i above below. ne_eqb (get_or line i 0) lf (none i above (omega arith)))))
+      ap (λ found. unwrap_or found (length line)) (least_from-none (is_line_feed line) (length line - at) at
+      (λ i above below. ne_eqb (get_or line i 0) lf (none i above (omega arith))))
 
 -- a line feed that is found in the text before an offset, or from it on, and none there
 module _ (line text : List ℕ) (at : ℕ) (inside : at ≤ length line) where
@@ -60,12 +59,7 @@ module _ (line text : List ℕ) (at : ℕ) (inside : at ≤ length line) where
         (λ j above below. begins_not line j (omega arith) (λ h. none (j - 1) (omega arith) (omega (arith, below, front-len)) (front-byte (j - 1) (omega arith) ∙ h)))))
 
     pub start-missing : ((i : ℕ) → i < length text → get_or text i 0 ≢ lf) → 0 ≡ row_start line at
-    start-missing none = start-none line at (λ i below h. none i (omega (arith, below, front-len)) (front-byte i below ∙ h))
-
-    pub above-feed : (feed : ℕ) → feed < length text → get_or text feed 0 ≡ lf → IsCharBoundary line feed
-    above-feed feed low there =
-        let byte : get_or line feed 0 ≡ lf = sym (front-byte feed (omega (arith, low, front-len))) ∙ there in
-        IsCharBoundary-before_ascii line feed (omega (arith, low, front-len, inside)) (omega (arith, byte))
+    start-missing none = sym (start-none line at (λ i below h. none i (omega (arith, below, front-len)) (front-byte i below ∙ h)))
 
   module _ (e : text ≡ drop at line) where
     rest-len : length text ≡ length line - at
@@ -82,30 +76,7 @@ module _ (line text : List ℕ) (at : ℕ) (inside : at ≤ length line) where
 
     pub end-missing : ((i : ℕ) → i < length text → get_or text i 0 ≢ lf) → length line ≡ row_end line at
     end-missing none =
-        end-none line at (λ i above below h. none (i - at) (omega (arith, above, below, rest-len)) (rest-byte i (i - at) (omega (arith, above)) ∙ h))
-
-    pub below-feed : IsUtf8 line → (feed : ℕ) → feed < length text → get_or text feed 0 ≡ lf → IsCharBoundary line (at + feed + 1)
-    below-feed utf8 feed low there =
-        let byte : get_or line (at + feed) 0 ≡ lf = sym (rest-byte (at + feed) feed refl) ∙ there in
-        IsCharBoundary-after_ascii line (at + feed) utf8 (omega (arith, low, rest-len)) (omega (arith, byte))
-
-no-step : (way : Way) (cut : Cut) → destination (cluster_steps way 0) cut ≡ cut.cursor
-unfolding destination iterate
-no-step Back cut = refl
-no-step Ahead cut = refl
-
-pub unmoved : (way : Way) (cut : Cut) → cut ≡ after_move (cluster_steps way 0) cut
-unmoved way cut = ap (cut_at cut.line) (sym (no-step way cut))
-
-module _ (way : Way) (to : ℕ) (cut : Cut) where
-  -- the first step that reaches an offset is the number of steps there
-  pub reached : (n : ℕ) → n < length cut.line → is_reached_by way to cut n ≡ true → NonePasses (is_reached_by way to cut) 0 n → n ≡ steps_to way to cut
-  reached n below here none =
-      sym (ap (λ found. unwrap_or found (length cut.line)) (least_from-is (is_reached_by way to cut) (length cut.line) 0 n (omega arith) (omega arith) here none))
-
-  pub never-reached : NonePasses (is_reached_by way to cut) 0 (length cut.line) → length cut.line ≡ steps_to way to cut
-  never-reached none =
-      sym (ap (λ found. unwrap_or found (length cut.line)) (least_from-none (is_reached_by way to cut) (length cut.line) 0 (λ k low high. none k low (omega (arith, high)))))
+        sym (end-none line at (λ i above below h. none (i - at) (omega (arith, above, below, rest-len)) (rest-byte i (i - at) (omega (arith, above)) ∙ h)))
 
 -- ---- a line of one row
 
@@ -121,40 +92,27 @@ one_row_is_left goal asked none whole other = by asked.searching
     cut : Cut
     cut = asked.cut
 
-    start : row_start cut.line cut.cursor ≡ 0
-    start = sym (start-none cut.line cut.cursor (λ i below. no-feed cut.line none i))
+    no_edge : (way : Way) → edge_of_row way cut ≡ None
+    no_edge Back = rw (start-none cut.line cut.cursor (λ i below. no-feed cut.line none i)) refl
+    no_edge Ahead =
+        rw (end-none cut.line cut.cursor (λ i above below. no-feed cut.line none i), eq-eqb (length cut.line) (length cut.line) refl) refl
 
-    end : row_end cut.line cut.cursor ≡ length cut.line
-    end = sym (end-none cut.line cut.cursor (λ i above below. no-feed cut.line none i))
-
-    whole-length : (length cut.line == length cut.line) ≡ true
-    whole-length = eq-eqb (length cut.line) (length cut.line) refl
-
-    by_key : (key : Option RowKey) → key ≢ Some Break → edit_by_any key goal cut ≡ None
+    by_key : (key : Option RowKey) → key ≢ Some Break → option_and_then (λ key. edit_by key goal cut) key ≡ None
     by_key None other = refl
     by_key (Some Break) other = absurd (other refl)
-    by_key (Some Up) other = rw start refl
-    by_key (Some Down) other = rw (end, whole-length) refl
-    by_key (Some Start) other = rw start refl
-    by_key (Some End) other = rw (end, whole-length) refl
-    by_key (Some KillToEnd) other = rw (end, whole-length) refl
+    by_key (Some (ToRow way)) other = rw (no_edge way) refl
+    by_key (Some (ToEdge way)) other = rw (no_edge way) refl
+    by_key (Some KillToEnd) other = rw (no_edge Ahead) refl
 
     by_event : (event : EventView) → brings_rows event ≡ false → edit_of_pattern event ≡ None
     by_event (Paste text) whole = rw whole refl
     by_event _ whole = refl
 
-    by : (searching : Bool) → (if searching then edit_of_pattern asked.event else edit_by_any (row_key asked.event) goal cut) ≡ None
+    by : (searching : Bool) → (if searching then edit_of_pattern asked.event else option_and_then (λ key. edit_by key goal cut) (row_key asked.event)) ≡ None
     by true = by_event asked.event whole
     by false = by_key (row_key asked.event) other
 
 -- ---- where steps lead
-
--- the least number below a limit that passes, if one does
-least-or-none : (p : ℕ → Bool) (n : ℕ) → NonePasses p 0 n ⊎ ((m : ℕ) × (m < n) × (p m ≡ true) × NonePasses p 0 m)
-least-or-none p zero = inl (λ k low high. absurd (omega (arith, high)))
-least-or-none p (suc n) =
-    ⊎_elim (λ none. ⊎_elim (λ passes. inr (n, omega arith, passes, none)) (λ fails. inl (λ k low high. none-up p 0 n none fails k low (omega (arith, high)))) (cases_Bool (p n)))
-    (λ found. inr (found.0, omega (arith, found.1), found.2, found.3)) (least-or-none p n)
 
 module _ (line : List ℕ) (to : ℕ) (there : is_cluster_boundary line to ≡ true) where
   -- one step does not pass a boundary
@@ -194,30 +152,32 @@ module _ (to : ℕ) (cut : Cut) (there : is_cluster_boundary cut.line to ≡ tru
   on-way-start Back way = (leb-true to cut.cursor way, omega arith)
   on-way-start Ahead way = (leb-true cut.cursor to way, omega arith)
 
-  on-way : (way : Way) → has_reached way cut.cursor to ≡ true → (n : ℕ) → NonePasses (is_reached_by way to cut) 0 n → IsOnWay way to cut n (destination (cluster_steps way n) cut)
-  on-way way from zero none = subst (IsOnWay way to cut 0) (sym (no-step way cut)) (on-way-start way from)
-  on-way way from (suc n) none =
-      let before = on-way way from n (λ k low high. none k low (omega (arith, high))) in
-      let next = on-way-step way n (destination (cluster_steps way n) cut) (none n (omega arith) (omega arith)) before in
-      let more : n + 1 ≡ suc n = omega arith in
-      subst (λ m. IsOnWay way to cut m (destination (cluster_steps way m) cut)) more (subst (IsOnWay way to cut (n + 1)) (step-more way n cut) next)
-
   -- where it is reached, or as many steps went on as there are bytes, it is the place
-  there-at : (way : Way) (n : ℕ) → has_reached way to (destination (cluster_steps way n) cut) ≡ true → IsOnWay way to cut n (destination (cluster_steps way n) cut) → destination (cluster_steps way n) cut ≡ to
-  there-at Back n here on = omega (arith, on.0, leb-true (destination (cluster_steps Back n) cut) to here)
-  there-at Ahead n here on = omega (arith, on.0, leb-true to (destination (cluster_steps Ahead n) cut) here)
+  there-at : (way : Way) (n at : ℕ) → has_reached way to at ≡ true → IsOnWay way to cut n at → at ≡ to
+  there-at Back n at here on = omega (arith, on.0, leb-true at to here)
+  there-at Ahead n at here on = omega (arith, on.0, leb-true to at here)
 
-  all-gone : (way : Way) → cut.cursor ≤ length cut.line → IsOnWay way to cut (length cut.line) (destination (cluster_steps way (length cut.line)) cut) → destination (cluster_steps way (length cut.line)) cut ≡ to
-  all-gone Back low on = omega (arith, on.0, on.1, low)
-  all-gone Ahead low on = omega (arith, on.0, on.1, inside)
+  all-gone : (way : Way) (at : ℕ) → cut.cursor ≤ length cut.line → IsOnWay way to cut (length cut.line) at → at ≡ to
+  all-gone Back at low on = omega (arith, on.0, on.1, low)
+  all-gone Ahead at low on = omega (arith, on.0, on.1, inside)
+
+  -- after `n` steps on the way the least number that reaches the place leads there
+  leads : (way : Way) (n m : ℕ) → cut.cursor ≤ length cut.line → n + m ≡ length cut.line → IsOnWay way to cut n (destination (cluster_steps way n) cut)
+      → destination (cluster_steps way (unwrap_or (least_from (is_reached_by way to cut) n m) (length cut.line))) cut ≡ to
+  unfolding least_from
+  leads way n zero low whole on =
+      let all : n ≡ length cut.line = omega (arith, whole) in
+      all-gone way _ low (subst (λ k. IsOnWay way to cut k (destination (cluster_steps way k) cut)) all on)
+  leads way n (suc m) low whole on =
+      ⊎_elim (λ here. rw here (there-at way n _ here on))
+      (λ other. let next : n + 1 ≡ suc n = omega arith in
+      let after = subst (IsOnWay way to cut (n + 1)) (step-more way n cut) (on-way-step way n _ other on) in
+      rw other (leads way (suc n) m low (omega (arith, whole)) (subst (λ k. IsOnWay way to cut k (destination (cluster_steps way k) cut)) next after)))
+      (cases_Bool (is_reached_by way to cut n))
 
 pub steps_lead_there : StepsLeadThere
 steps_lead_there way to cut low inside there from =
-    ⊎_elim (λ none. ap (λ n. destination (cluster_steps way n) cut) (sym (never-reached way to cut none))
-    ∙ all-gone to cut there inside way low (on-way to cut there inside way from (length cut.line) none))
-    (λ found. ap (λ n. destination (cluster_steps way n) cut) (sym (reached way to cut found.0 found.1 found.2 found.3))
-    ∙ there-at to cut there inside way found.0 found.2 (on-way to cut there inside way from found.0 found.3))
-    (least-or-none (is_reached_by way to cut) (length cut.line))
+    leads to cut there inside way 0 (length cut.line) low (omega arith) (subst (IsOnWay way to cut 0) (sym (no_step way cut)) (on-way-start to cut there inside way from))
 
 -- ---- the rest of a row that is killed
 
@@ -227,7 +187,7 @@ row_kill_is_kept cut some inside there =
     let n = steps_to Ahead end cut in
     let leads : destination (cluster_steps Ahead n) cut ≡ end =
     steps_lead_there Ahead end cut (omega (arith, some, inside)) (omega (arith, inside)) there (le-leb cut.cursor end (omega (arith, some))) in
-    let moves : n ≢ 0 = λ none. absurd (omega (arith, some, sym leads ∙ ap (λ k. destination (cluster_steps Ahead k) cut) none ∙ no-step Ahead cut)) in
+    let moves : n ≢ 0 = λ none. absurd (omega (arith, some, sym leads ∙ ap (λ k. destination (cluster_steps Ahead k) cut) none ∙ no_step Ahead cut)) in
     let whole : max n 1 ≡ n = omega (arith, moves) in
     let leads_to : destination (movement.ForwardChar (max n 1)) cut ≡ end = ap (λ k. destination (movement.ForwardChar k) cut) whole ∙ leads in
     rw (ne_eqb end (length cut.line) (λ e. absurd (omega (arith, e, inside))))

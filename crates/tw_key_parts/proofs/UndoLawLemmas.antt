@@ -1,5 +1,5 @@
 -- What undos lead to.
-use Rattle.std.proofs.Common.{◌≡◌, ◌≤◌, ◌<◌, ℕ, zero, suc, List, [], ◌∷◌, length, take, eqb, Option, Some, None, Bool, true, false, not, refl, sym, ◌∙◌, arith, rules, unwrap_or, if◌then◌else◌}
+use Rattle.std.proofs.Common.{◌≡◌, ◌≤◌, ◌<◌, ℕ, zero, suc, List, [], ◌∷◌, length, take, eqb, Option, Some, None, Bool, false, not, refl, sym, ◌∙◌, arith, rules, unwrap_or}
 use Rattle.std.proofs.lemmas.Slice.Eq.{bytes_eq-Decides}
 use Rattle.std.specs.Prelude.{option_map}
 use Rattle.std.specs.Cmp.Lexicographic.{pointwise}
@@ -12,25 +12,13 @@ use Rattle.tw_key_parts.specs.UndoLaws.{oldest_line, undo_once, UndosGiveOldest,
 found_below : (p : ℕ → Bool) (to i : ℕ) → greatest_below p to ≡ Some i → i < to
 unfolding greatest_below
 found_below p zero i e = cc
-found_below p (suc to) i e = by (p to) e (found_below p to i)
-  where
-    by : (b : Bool) → (if b then Some to else greatest_below p to) ≡ Some i → (greatest_below p to ≡ Some i → i < to) → i < suc to
-    by true e below = let same : to ≡ i = cc in omega (arith, same)
-    by false e below = let low = below e in omega (arith, low)
+found_below p (suc to) i e = let below = found_below p to i in grind (arith, below)
 
 -- where none is found 0 is none
 none_at_zero : (p : ℕ → Bool) (to : ℕ) → greatest_below p (suc to) ≡ None → p 0 ≡ false
 unfolding greatest_below
-none_at_zero p zero e = by (p 0) refl e
-  where
-    by : (b : Bool) → p 0 ≡ b → (if b then Some zero else None) ≡ None → p 0 ≡ false
-    by true is e = cc
-    by false is e = is
-none_at_zero p (suc to) e = by (p (suc to)) e (none_at_zero p to)
-  where
-    by : (b : Bool) → (if b then Some (suc to) else greatest_below p (suc to)) ≡ None → (greatest_below p (suc to) ≡ None → p 0 ≡ false) → p 0 ≡ false
-    by true e below = cc
-    by false e below = below e
+none_at_zero p zero e = grind arith
+none_at_zero p (suc to) e = let below = none_at_zero p to in grind (arith, below)
 
 -- the oldest line, where an undo leads to this index
 oldest_kept : (before : List Cut) (cut : Cut) (i : Option ℕ) → last_change cut.line before ≡ i

@@ -20,21 +20,6 @@ row_with_key (row ∷ rest) key = if is_same_key row.0 key then Some row.1 else 
 abbrev pub yank_key : KeyEvent
 yank_key = key_press ctrl (letter (codes "Y"))
 
--- brings another one back in its place
-abbrev pub rotate_key : KeyEvent
-rotate_key = key_press alt (letter (codes "y"))
-
--- brings the line before the last step back
-abbrev pub undo_key : KeyEvent
-undo_key = key_press ctrl (letter (codes "_"))
-
--- so do these two, one right after the other
-abbrev pub undo_prefix : KeyEvent
-undo_prefix = key_press ctrl (letter (codes "X"))
-
-abbrev pub prefixed_undo_key : KeyEvent
-prefixed_undo_key = key_press ctrl (letter (codes "U"))
-
 -- puts in the last word of a line
 abbrev pub last_word_key : KeyEvent
 last_word_key = key_press alt (letter (codes "."))

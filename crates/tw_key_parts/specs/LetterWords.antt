@@ -1,5 +1,5 @@
 -- Words of letters and digits, as so many steps by grapheme clusters.
-use Rattle.std.specs.Prelude.{ℕ, ◌+◌, Bool, false, not, ◌&&◌, ◌||◌, List, [], ◌∷◌, length, drop, Option, option_map, unwrap_or}
+use Rattle.std.specs.Prelude.{ℕ, ◌+◌, Bool, false, not, ◌&&◌, ◌||◌, List, length, drop, Option, option_map, slice_get, unwrap_or}
 use Rattle.std.specs.Char.Unicode.Alphabetic.{is_alphabetic}
 use Rattle.std.specs.Char.Unicode.Numeric.{is_numeric}
 use Rattle.std.specs.Str.{chars}
@@ -10,13 +10,9 @@ use Rattle.tw_key_parts.specs.ClusterSteps.{cluster_steps}
 use Rattle.tw_key_parts.specs.declared.steps.Way.{Way}
 use Rattle.tw_key_parts.specs.declared.steps.Way.TheVariants.{Back, Ahead}
 
--- whether the first of some characters is a letter or a digit, and whether a text begins with one
-abbrev pub is_letter_first : List ℕ → Bool
-is_letter_first [] = false
-is_letter_first (c ∷ cs) = is_alphabetic c || is_numeric c
-
+-- whether a text begins with a letter or a digit
 abbrev pub begins_with_letter : List ℕ → Bool
-begins_with_letter text = is_letter_first (chars text)
+begins_with_letter text = unwrap_or (option_map (λ c. is_alphabetic c || is_numeric c) (slice_get (chars text) 0)) false
 
 -- whether a letter stands where so many steps lead
 abbrev pub is_letter_after : Way → Cut → ℕ → Bool

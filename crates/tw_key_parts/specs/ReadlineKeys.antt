@@ -21,14 +21,11 @@ readline_table =
     ∷ (key_press alt Backspace, Kill (movement.BackwardWord 1))
     ∷ []
 
--- the key that deletes in a line, and on an empty line is left to the key table
-abbrev pub delete_key : KeyEvent
-delete_key = key_press ctrl (letter (codes "D"))
-
--- what that key does
+-- Ctrl-D deletes in a line, and on an empty line is left to the key table
 abbrev pub delete_action : KeyEvent → Cut → Option ActionView
 delete_action key cut =
-    if is_same_key key delete_key && not (length cut.line == 0) then Some (KillAndMove (movement.ForwardChar 1) movement.None) else None
+    if is_same_key key (key_press ctrl (letter (codes "D"))) && not (length cut.line == 0)
+    then Some (KillAndMove (movement.ForwardChar 1) movement.None) else None
 
 -- the action of a key in a line
 abbrev pub readline_key : KeyEvent → Cut → Option ActionView

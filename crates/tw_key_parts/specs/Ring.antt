@@ -1,14 +1,19 @@
 -- What was killed, and how it comes back.
-use Rattle.std.specs.Prelude.{ℕ, ◌-◌, ◌==◌, ◌&&◌, ◌||◌, nat_lt, Bool, not, List, [], ◌∷◌, ◌++◌, length, take, drop, map, eqb, string_bytes, Option, Some, None, option_map, if◌then◌else◌, slice_get}
+use Rattle.std.specs.Prelude.{ℕ, ◌≡◌, ◌≤◌, ◌<◌, ◌+◌, ◌-◌, ◌==◌, ◌&&◌, ◌||◌, nat_lt, Bool, not, List, [], ◌∷◌, ◌++◌, length, take, drop, map, eqb, codes, string_bytes, Option, Some, None, option_map, if◌then◌else◌, slice_get}
+use Rattle.std.specs.Option.{option_and_then}
+use Rattle.std.specs.String.{string_capacity}
+use Rattle.std.specs.Vec.{vec_capacity, vec_len}
 use Rattle.std.specs.List.{ends_with, remove_range, slice_index_or}
 use Rattle.tw_input.specs.EventView.{EventView}
+use Rattle.tw_input.specs.Modifiers.{alt}
 use Rattle.tw_line.specs.Cut.{Cut, cut_at}
 use Rattle.tw_line.specs.Movements.{destination}
 use Rattle.tw_line.specs.declared.movements.Movement.{Movement}
 use Rattle.tw_host.specs.ActionView.{ActionView, InsertText, Kill, KillAndMove}
+use Rattle.tw_host.specs.KeyTable.{key_press, letter}
 use Rattle.std.specs.Cmp.Lexicographic.{pointwise}
 use Rattle.tw_key_parts.specs.KeyRules.{Edited, KeyRules, KeyStep}
-use Rattle.tw_key_parts.specs.Keys.{deletes_character, is_key, yank_key, rotate_key}
+use Rattle.tw_key_parts.specs.Keys.{deletes_character, is_key, yank_key}
 use Rattle.tw_key_parts.specs.WordEdits.{passed_text}
 use Rattle.tw_key_parts.specs.declared.ring.KillRing.{KillRing}
 use Rattle.tw_key_parts.specs.declared.ring.Latest.{Latest}
@@ -47,17 +52,19 @@ leads_onward m cut = nat_lt cut.cursor (destination m cut)
 
 -- ---- what is kept
 
--- the number of kills that are kept
-abbrev pub most_kills : ℕ
-most_kills = 10
-
--- the kills but for the oldest, where there are that many
+-- the kills but for the oldest, where there are ten
 abbrev pub with_room : List (List ℕ) → List (List ℕ)
-with_room kills = if nat_lt (length kills) most_kills then kills else drop 1 kills
+with_room kills = if nat_lt (length kills) 10 then kills else drop 1 kills
 
 -- the newest kill
 abbrev pub newest_kill : List (List ℕ) → List ℕ
 newest_kill kills = slice_index_or kills (length kills - 1) []
+
+-- what a ring needs to keep what is killed of a cut text: the text itself, and memory
+abbrev pub IsReady : KillRing → Cut → Type 0
+IsReady r cut =
+    (r.probe ≡ cut) × (string_bytes r.spare ≡ []) × (vec_len r.kills < vec_capacity r.kills)
+    × (length (newest_kill (map string_bytes r.kills.items)) + length cut.line ≤ string_capacity r.spare)
 
 -- the newest kill with more: what lay after the cursor comes after it, and else before it
 abbrev pub joined_kill : Bool → List ℕ → List ℕ → List ℕ
@@ -106,23 +113,17 @@ yank_of kills index cut = option_map (λ text. record { cut = cut; text = text; 
 abbrev pub without_before : ℕ → Cut → Cut
 without_before n cut = cut_at (remove_range cut.line (cut.cursor - n) cut.cursor) (cut.cursor - n)
 
--- the cut text without a text before the cursor, if the text is there and stands there
-abbrev pub taken_out : Option (List ℕ) → Cut → Option Cut
-taken_out None cut = None
-taken_out (Some text) cut = if ends_with eqb (take cut.cursor cut.line) text then Some (without_before (length text) cut) else None
+-- the cut text without a text before the cursor, if it stands there
+abbrev pub taken_out : Cut → List ℕ → Option Cut
+taken_out cut text = if ends_with eqb (take cut.cursor cut.line) text then Some (without_before (length text) cut) else None
 
 -- the index before another, and before the first one the last
 abbrev pub index_below : List (List ℕ) → ℕ → ℕ
 index_below kills i = if i == 0 then length kills - 1 else i - 1
 
--- a kill comes back into a cut text, if there is one
-abbrev pub yank_into : List (List ℕ) → ℕ → Option Cut → Option Yanked
-yank_into kills index None = None
-yank_into kills index (Some cut) = yank_of kills index cut
-
 -- in the place of the kill that came back last comes the one before it
 abbrev pub rotated : List (List ℕ) → Latest → Cut → Option Yanked
-rotated kills (latest.Yank i) cut = yank_into kills (index_below kills i) (taken_out (slice_get kills i) cut)
+rotated kills (latest.Yank i) cut = option_and_then (yank_of kills (index_below kills i)) (option_and_then (taken_out cut) (slice_get kills i))
 rotated kills _ cut = None
 
 -- what an event brings back, but during a search
@@ -130,7 +131,7 @@ abbrev pub yank_by : Bool → EventView → Ring → Cut → Option Yanked
 yank_by searching event r cut =
     if searching then None
     else if is_key yank_key event then yank_of r.kills (length r.kills - 1) cut
-    else if is_key rotate_key event then rotated r.kills r.latest cut
+    else if is_key (key_press alt (letter (codes "y"))) event then rotated r.kills r.latest cut
     else None
 
 -- a kill that comes back, as an edit

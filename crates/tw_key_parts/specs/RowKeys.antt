@@ -1,7 +1,7 @@
 -- Keys for lines of several rows, which line feeds end.
 use Rattle.std.specs.Prelude.{ℕ, ◌≡◌, ◌≢◌, ◌≤◌, ◌<◌, ◌+◌, ◌-◌, ◌==◌, ◌||◌, Bool, true, false, leb, min, max, codes, List, [], ◌∷◌, length, slice_index, slice_range, map, chars, IsSomeAnd, Option, Some, None, option_map, unwrap_or, if◌then◌else◌}
 use Rattle.std.specs.List.{list_any}
-use Rattle.std.specs.Option.{option_flatten}
+use Rattle.std.specs.Option.{option_and_then, option_flatten}
 use Rattle.std.specs.Str.{encode_utf8_all}
 use Rattle.tw_surface.specs.Characters.{lf}
 use Rattle.tw_line.specs.Extremes.{greatest_below, least_from}
@@ -21,15 +21,11 @@ use Rattle.tw_key_parts.specs.Keys.{row_with_key}
 use Rattle.tw_key_parts.specs.WordEdits.{passed_text}
 use Rattle.tw_key_parts.specs.Ring.{killing}
 use Rattle.tw_key_parts.specs.declared.row_keys.RowKey.{RowKey}
-use Rattle.tw_key_parts.specs.declared.row_keys.RowKey.TheVariants.{Break, Up, Down, Start, End, KillToEnd}
+use Rattle.tw_key_parts.specs.declared.row_keys.RowKey.TheVariants.{Break, ToRow, ToEdge, KillToEnd}
 use Rattle.tw_key_parts.specs.declared.steps.Way.{Way}
 use Rattle.tw_key_parts.specs.declared.steps.Way.TheVariants.{Back, Ahead}
 
 -- ---- the keys
-
--- begins a row
-abbrev pub break_key : KeyEvent
-break_key = key_press alt keycode.Enter
 
 -- kills to the end of the row
 abbrev pub kill_key : KeyEvent
@@ -38,17 +34,17 @@ kill_key = key_press ctrl (letter (codes "K"))
 -- the keys with what they do in a line of several rows
 abbrev pub row_keys : List (KeyEvent × RowKey)
 row_keys =
-    (break_key, Break)
-    ∷ (key_press none keycode.UpArrow, Up)
-    ∷ (key_press none keycode.ApplicationUpArrow, Up)
-    ∷ (key_press ctrl (letter (codes "P")), Up)
-    ∷ (key_press none keycode.DownArrow, Down)
-    ∷ (key_press none keycode.ApplicationDownArrow, Down)
-    ∷ (key_press ctrl (letter (codes "N")), Down)
-    ∷ (key_press none keycode.Home, Start)
-    ∷ (key_press ctrl (letter (codes "A")), Start)
-    ∷ (key_press none keycode.End, End)
-    ∷ (key_press ctrl (letter (codes "E")), End)
+    (key_press alt keycode.Enter, Break)
+    ∷ (key_press none keycode.UpArrow, ToRow Back)
+    ∷ (key_press none keycode.ApplicationUpArrow, ToRow Back)
+    ∷ (key_press ctrl (letter (codes "P")), ToRow Back)
+    ∷ (key_press none keycode.DownArrow, ToRow Ahead)
+    ∷ (key_press none keycode.ApplicationDownArrow, ToRow Ahead)
+    ∷ (key_press ctrl (letter (codes "N")), ToRow Ahead)
+    ∷ (key_press none keycode.Home, ToEdge Back)
+    ∷ (key_press ctrl (letter (codes "A")), ToEdge Back)
+    ∷ (key_press none keycode.End, ToEdge Ahead)
+    ∷ (key_press ctrl (letter (codes "E")), ToEdge Ahead)
     ∷ (kill_key, KillToEnd)
     ∷ []
 
@@ -90,54 +86,38 @@ is_reached_by way to cut count = has_reached way to (destination (cluster_steps 
 abbrev pub steps_to : Way → ℕ → Cut → ℕ
 steps_to way to cut = unwrap_or (least_from (is_reached_by way to cut) 0 (length cut.line)) (length cut.line)
 
--- the column of the cursor: the number of steps back to the start of its row
-abbrev pub cursor_column : Cut → ℕ
-cursor_column cut = steps_to Back (row_start cut.line cut.cursor) cut
-
 -- the place `column` steps after the start of a row, or the end of a shorter row
 abbrev pub place_in_row : List ℕ → ℕ → ℕ → ℕ
 place_in_row line start column = min (destination (movement.ForwardChar column) (cut_at line start)) (row_end line start)
 
 -- ---- what the keys do
 
+-- in each row but the first its start, in each row but the last its end
+abbrev pub edge_of_row : Way → Cut → Option ℕ
+edge_of_row Back cut = let start = row_start cut.line cut.cursor in if start == 0 then None else Some start
+edge_of_row Ahead cut = let end = row_end cut.line cut.cursor in if end == length cut.line then None else Some end
+
+-- where the row above or below begins, from that edge
+abbrev pub row_beside : Way → List ℕ → ℕ → ℕ
+row_beside Back line start = row_start line (start - 1)
+row_beside Ahead line end = end + 1
+
+-- a column of the row above or below, if there is one
+abbrev pub place_beside : Way → ℕ → Cut → Option ℕ
+place_beside way column cut = option_map (λ edge. place_in_row cut.line (row_beside way cut.line edge) column) (edge_of_row way cut)
+
 -- the cursor goes back, or ahead, to an offset
-abbrev pub move_to : Way → ℕ → Cut → ActionView
-move_to way to cut = Move (cluster_steps way (steps_to way to cut))
-
--- in each row but the first the cursor goes to a column of the row above
-abbrev pub moved_up : ℕ → Cut → Option ActionView
-moved_up column cut =
-    let start = row_start cut.line cut.cursor in
-    if start == 0 then None else Some (move_to Back (place_in_row cut.line (row_start cut.line (start - 1)) column) cut)
-
--- in each row but the last it goes to a column of the row below
-abbrev pub moved_down : ℕ → Cut → Option ActionView
-moved_down column cut =
-    let end = row_end cut.line cut.cursor in
-    if end == length cut.line then None else Some (move_to Ahead (place_in_row cut.line (end + 1) column) cut)
-
--- in each row but the first it goes to the start of the row
-abbrev pub moved_to_start : Cut → Option ActionView
-moved_to_start cut =
-    let start = row_start cut.line cut.cursor in
-    if start == 0 then None else Some (move_to Back start cut)
-
--- in each row but the last it goes to the end of the row
-abbrev pub moved_to_end : Cut → Option ActionView
-moved_to_end cut =
-    let end = row_end cut.line cut.cursor in
-    if end == length cut.line then None else Some (move_to Ahead end cut)
+abbrev pub move_to : Way → Option ℕ → Cut → Option ActionView
+move_to way to cut = option_map (λ to. Move (cluster_steps way (steps_to way to cut))) to
 
 -- in each row but the last the rest of the row is killed, and at its end the line feed
 abbrev pub killed_to_end : Cut → Option ActionView
 killed_to_end cut =
-    let end = row_end cut.line cut.cursor in
-    if end == length cut.line then None
-    else Some (KillAndMove (movement.ForwardChar (max (steps_to Ahead end cut) 1)) movement.None)
+    option_map (λ end. KillAndMove (movement.ForwardChar (max (steps_to Ahead end cut) 1)) movement.None) (edge_of_row Ahead cut)
 
--- the column that a run of Up and Down keeps, or else that of the cursor
+-- the column that a run of Up and Down keeps, or else the number of steps from the cursor back to the start of its row
 abbrev pub goal_column : Option ℕ → Cut → ℕ
-goal_column goal cut = unwrap_or goal (cursor_column cut)
+goal_column goal cut = unwrap_or goal (steps_to Back (row_start cut.line cut.cursor) cut)
 
 -- an action as an edit of the line, which stays as it is; a column may be kept
 abbrev pub row_edit : Option ℕ → Option ActionView → Option (Edited (Option ℕ))
@@ -146,16 +126,9 @@ row_edit kept action = option_map (λ action. record { cut = None; action = acti
 -- the edit of a key
 abbrev pub edit_by : RowKey → Option ℕ → Cut → Option (Edited (Option ℕ))
 edit_by Break goal cut = row_edit None (Some (InsertChar 1 lf))
-edit_by Up goal cut = let column = goal_column goal cut in row_edit (Some column) (moved_up column cut)
-edit_by Down goal cut = let column = goal_column goal cut in row_edit (Some column) (moved_down column cut)
-edit_by Start goal cut = row_edit None (moved_to_start cut)
-edit_by End goal cut = row_edit None (moved_to_end cut)
+edit_by (ToRow way) goal cut = let column = goal_column goal cut in row_edit (Some column) (move_to way (place_beside way column cut) cut)
+edit_by (ToEdge way) goal cut = row_edit None (move_to way (edge_of_row way cut) cut)
 edit_by KillToEnd goal cut = row_edit None (killed_to_end cut)
-
--- the edit of a key, if there is one
-abbrev pub edit_by_any : Option RowKey → Option ℕ → Cut → Option (Edited (Option ℕ))
-edit_by_any None goal cut = None
-edit_by_any (Some key) goal cut = edit_by key goal cut
 
 -- whether a line feed stands in a text
 abbrev pub has_rows : List ℕ → Bool
@@ -175,7 +148,7 @@ edit_of_pattern _ = None
 
 -- the keys edit, but during a search
 abbrev pub row_key_edit : Option ℕ → Asked → Option (Edited (Option ℕ))
-row_key_edit goal asked = if asked.searching then edit_of_pattern asked.event else edit_by_any (row_key asked.event) goal asked.cut
+row_key_edit goal asked = if asked.searching then edit_of_pattern asked.event else option_and_then (λ key. edit_by key goal asked.cut) (row_key asked.event)
 
 -- Up and Down keep the column; all else forgets it
 abbrev pub row_key_rules : KeyRules (Option ℕ) (Option ℕ)

@@ -1,13 +1,16 @@
 -- The lines before the steps of a reading.
-use Rattle.std.specs.Prelude.{ℕ, ◌&&◌, ◌||◌, Bool, true, false, not, List, [], ◌∷◌, ◌++◌, length, take, eqb, Option, Some, None, if◌then◌else◌, option_map, unwrap_or}
+use Rattle.std.specs.Prelude.{ℕ, ◌&&◌, ◌||◌, Bool, true, false, not, List, [], ◌∷◌, ◌++◌, length, take, eqb, codes, Option, Some, None, if◌then◌else◌, option_map, unwrap_or}
 use Rattle.std.specs.Cmp.Lexicographic.{pointwise}
 use Rattle.std.specs.List.{slice_index_or}
+use Rattle.std.specs.Option.{is_none}
 use Rattle.tw_line.specs.Extremes.{greatest_below}
 use Rattle.tw_input.specs.EventView.{EventView}
+use Rattle.tw_input.specs.Modifiers.{ctrl}
 use Rattle.tw_line.specs.Cut.{Cut, empty_cut}
 use Rattle.tw_host.specs.ActionView.{ActionView, AcceptLine, Cancel, EndOfFile, InsertChar, InsertText, Repaint, Kill, KillAndMove, HistoryPrevious, HistoryNext, Complete, NoAction, HistoryIncSearchBackwards, HistoryIncSearchForwards}
+use Rattle.tw_host.specs.KeyTable.{key_press, letter}
 use Rattle.tw_key_parts.specs.KeyRules.{Asked, Edited, KeyRules, KeyStep}
-use Rattle.tw_key_parts.specs.Keys.{is_key, prefixed_undo_key, undo_key, undo_prefix}
+use Rattle.tw_key_parts.specs.Keys.{is_key}
 use Rattle.tw_key_parts.specs.declared.undo.UndoSteps.{UndoSteps}
 
 -- the cut texts before the steps, the oldest first, whether the last step is typing that goes on, and whether the last
@@ -60,17 +63,10 @@ if_any test action = unwrap_or (option_map test action) false
 abbrev pub is_same_line : Cut → Cut → Bool
 is_same_line a b = pointwise eqb a.line b.line
 
--- the typing goes on: a character is typed right after others, and the host left the line as it was
-abbrev pub typing_goes_on : Option ActionView → Cut → Cut → Bool → Bool
-typing_goes_on action cut new typing = typing && (if_any types_character action && is_same_line cut new)
-
--- a step begins: an edit, or a host that changed the line itself
-abbrev pub is_step : Option ActionView → Cut → Cut → Bool
-is_step action cut new = if_any is_edit action || not (is_same_line cut new)
-
--- the cut texts before the steps, with one more where a step begins; typing that goes on is none
-abbrev pub steps_with : Option ActionView → Cut → Cut → Undo → List Cut
-steps_with action cut new u = if is_step action cut new && not (typing_goes_on action cut new u.typing) then u.before ++ cut ∷ [] else u.before
+-- a step begins: by an edit, or where the host changed the line itself; a character that is typed right after others on
+-- a line that the host left as it was begins none
+abbrev pub begins_step : Option ActionView → Bool → Bool → Bool
+begins_step action same typing = (if_any is_edit action || not same) && not (typing && (if_any types_character action && same))
 
 -- whether the last step is typing that goes on: where a character was typed it is, and where nothing is done it is as
 -- before
@@ -80,25 +76,18 @@ typing_after (Some NoAction) typing = typing
 typing_after (Some Repaint) typing = typing
 typing_after (Some action) typing = types_character action
 
--- the steps after an action of a line that is edited: a reading that ends leaves none
-abbrev pub steps_after : Bool → Option ActionView → Cut → Cut → Undo → List Cut
-steps_after searching action cut new u =
-    if if_any is_end action then []
-    else if searching then u.before
-    else steps_with action cut new u
-
--- the event is the prefix, and nothing is done
-abbrev pub is_prefix : Option ActionView → EventView → Bool
-is_prefix None event = is_key undo_prefix event
-is_prefix (Some _) event = false
-
--- all of it after an action, if there is one
+-- all of it after an action, if there is one: an end leaves no steps, and the prefix is an event for which nothing is done
 abbrev pub undo_after : KeyStep → Undo → Undo
-undo_after step u = record {
-  before = steps_after step.searching step.action step.before step.after u;
-  typing = not step.searching && (typing_after step.action u.typing && is_same_line step.before step.after);
-  prefixed = is_prefix step.action step.event;
-}
+undo_after step u =
+    let same = is_same_line step.before step.after in
+    record {
+      before =
+          if if_any is_end step.action then []
+          else if begins_step step.action same u.typing && not step.searching then u.before ++ step.before ∷ []
+          else u.before;
+      typing = not step.searching && (typing_after step.action u.typing && same);
+      prefixed = is_none step.action && is_key (key_press ctrl (letter (codes "X"))) step.event;
+    }
 
 -- ---- what comes back
 
@@ -114,13 +103,9 @@ differs_at line before i = not (pointwise eqb (step_at before i).line line)
 abbrev pub last_change : List ℕ → List Cut → Option ℕ
 last_change line before = greatest_below (differs_at line before) (length before)
 
--- the cut text before the last step that changed the line, if one did
-abbrev pub before_change : Undo → Cut → Option Cut
-before_change u cut = option_map (step_at u.before) (last_change cut.line u.before)
-
--- the cut text that an undo brings back: where no step changed the line it stays
+-- the cut text that an undo brings back: that before the last step that changed the line; where none did it stays
 abbrev pub undone : Undo → Cut → Cut
-undone u cut = unwrap_or (before_change u cut) cut
+undone u cut = unwrap_or (option_map (step_at u.before) (last_change cut.line u.before)) cut
 
 -- the number of steps that an undo leaves
 abbrev pub steps_left : Undo → Cut → ℕ
@@ -130,19 +115,15 @@ steps_left u cut = unwrap_or (last_change cut.line u.before) 0
 abbrev pub undo_behind : ℕ → Undo → Undo
 undo_behind left u = record { before = take left u.before; typing = false; prefixed = false }
 
--- nothing is typed, which ends a completion
-abbrev pub type_nothing : ActionView
-type_nothing = InsertChar 0 32
-
--- the undo key, or the second one right after the prefix
+-- Ctrl-_ undoes, and so does Ctrl-U right after the prefix, Ctrl-X
 abbrev pub is_undo : Undo → EventView → Bool
-is_undo u event = is_key undo_key event || (u.prefixed && is_key prefixed_undo_key event)
+is_undo u event = is_key (key_press ctrl (letter (codes "_"))) event || (u.prefixed && is_key (key_press ctrl (letter (codes "U"))) event)
 
--- the keys undo, but during a search
+-- the keys undo, but during a search; nothing is typed, which ends a completion
 abbrev pub undo_edit : Undo → Asked → Option (Edited ℕ)
 undo_edit u asked =
     if is_undo u asked.event && not asked.searching
-    then Some (record { cut = Some (undone u asked.cut); action = type_nothing; kept = steps_left u asked.cut })
+    then Some (record { cut = Some (undone u asked.cut); action = InsertChar 0 32; kept = steps_left u asked.cut })
     else None
 
 -- an undo leaves its steps, and all else may be one more

@@ -15,15 +15,13 @@ use Rattle.tw_key_parts.specs.declared.cases.WordCase.TheVariants.{Upper, Lower,
 abbrev pub passed_text : Movement → Cut → List ℕ
 passed_text m c = slice_range c.line (min c.cursor (destination m c)) (max c.cursor (destination m c))
 
--- the length of the first grapheme cluster of a text
-abbrev pub first_cluster_len : List ℕ → ℕ
-first_cluster_len text = destination (movement.ForwardChar 1) (cut_at text 0)
-
--- a text in a case, as Unicode maps its characters
+-- a text in a case, as Unicode maps its characters; a capital is its first grapheme cluster
 abbrev pub in_case : WordCase → List ℕ → List ℕ
 in_case Upper text = str_to_uppercase text
 in_case Lower text = str_to_lowercase text
-in_case Capitalized text = let n = first_cluster_len text in str_to_uppercase (take n text) ++ str_to_lowercase (drop n text)
+in_case Capitalized text =
+    let n = destination (movement.ForwardChar 1) (cut_at text 0) in
+    str_to_uppercase (take n text) ++ str_to_lowercase (drop n text)
 
 -- what stands from the cursor to the end of the word ahead is written in a case, and the cursor stands after it
 abbrev pub with_word_in : WordCase → Cut → Cut

@@ -1,8 +1,8 @@
 //! The case of words.
 
-ghost use Rattle.std.specs.Prelude.{◌≡◌, IfOk, IsCharBoundary, string_bytes};
+ghost use Rattle.std.specs.Prelude.{◌≡◌, IfOk, string_bytes};
 ghost use Rattle.tw_key_parts.specs.declared.cases.WordCase.TheVariants.{Capitalized};
-ghost use Rattle.tw_key_parts.specs.WordEdits.{first_cluster_len, in_case, with_word_in};
+ghost use Rattle.tw_key_parts.specs.WordEdits.{in_case, with_word_in};
 
 use crate::passed::passed_text;
 use std::alloc::{AllocError, Global};
@@ -19,21 +19,13 @@ pub enum WordCase {
     Capitalized,
 }
 
-/// Returns the length of the first grapheme cluster of a text in bytes.
-fn first_cluster_len(alloc: Global, text: &str) -> Result<usize, AllocError>
-    ensures value { IfOk result (λ len. len ≡ first_cluster_len text.now) }
-    ensures boundary { IfOk result (λ len. IsCharBoundary text.now len) }
-{
-    let mut editor = LineEditBuffer::new(alloc, text, 0)?;
-    editor.exec_movement(Movement::ForwardChar(1));
-    Ok(editor.get_cursor())
-}
-
 /// Returns a text with its first grapheme cluster in upper case and the rest in lower case.
 fn capitalized(alloc: Global, text: &str) -> Result<String, AllocError>
     ensures { IfOk result (λ written. string_bytes written ≡ in_case Capitalized text.now) }
 {
-    let (first, rest) = text.split_at(first_cluster_len(alloc, text)?);
+    let mut editor = LineEditBuffer::new(alloc, text, 0)?;
+    editor.exec_movement(Movement::ForwardChar(1));
+    let (first, rest) = editor.get_line().split_at(editor.get_cursor());
     let mut written = first.to_uppercase(alloc)?;
     written.push_str(rest.to_lowercase(alloc)?.as_str())?;
     Ok(written)

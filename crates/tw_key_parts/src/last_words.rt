@@ -5,16 +5,15 @@ ghost use Rattle.tw_input.specs.EventView.{event_view};
 ghost use Rattle.tw_key_parts.specs.EditView.{lent_action};
 ghost use Rattle.tw_key_parts.specs.KeyRules.{step_of};
 ghost use Rattle.tw_key_parts.specs.LastWords.{last_word_after};
-ghost use Rattle.tw_key_parts.specs.Recalled.{recalled_view};
 
 use crate::edit::Edit;
-use crate::keys::{LAST_WORD, is_key};
+use crate::keys::{is_key, key_of};
 use crate::part::KeyPart;
 use crate::recalled::{Recalled, line_before_recall, older_index};
 use std::alloc::{AllocError, Global};
 use tw_host::Action;
 use tw_hosts::{end_row, last_word};
-use tw_input::InputEvent;
+use tw_input::{InputEvent, Modifiers};
 use tw_line::{History, LineEditBuffer};
 
 /// Alt-. inserts the last word of the last line of the history. Another Alt-. right after it replaces it by the last
@@ -27,26 +26,26 @@ pub struct LastWords {
 impl LastWords {
     /// Creates the part with no insertion.
     pub fn new() -> Self
-        ensures { option_map recalled_view result.word ≡ None }
+        ensures { result.word ≡ None }
     {
         LastWords { word: None }
     }
 }
 
 impl KeyPart for LastWords {
-    ghost use Rattle.std.specs.Prelude.{Option, option_map};
+    ghost use Rattle.std.specs.Prelude.{Option};
     ghost use Rattle.tw_key_parts.specs.LastWords.{last_word_rules};
-    ghost use Rattle.tw_key_parts.specs.Recalled.{RecalledView, recalled_view};
+    ghost use Rattle.tw_key_parts.specs.declared.recalled.Recalled.{Recalled};
 
     type Note = Recalled;
 
-    ghost State = { Option RecalledView };
+    ghost State = { Option Recalled };
 
-    ghost Kept = { RecalledView };
+    ghost Kept = { Recalled };
 
-    ghost state = { λ it. option_map recalled_view it.word };
+    ghost state = { λ it. it.word };
 
-    ghost kept = { recalled_view };
+    ghost kept = { λ note. note };
 
     ghost keys = { last_word_rules };
 
@@ -60,7 +59,7 @@ impl KeyPart for LastWords {
         event: &InputEvent,
         line: &LineEditBuffer,
     ) -> Result<Option<Edit<Recalled>>, AllocError> {
-        if searching || !is_key(LAST_WORD, event) {
+        if searching || !is_key(key_of(Modifiers::ALT, '.'), event) {
             return Ok(None);
         }
         let Some(index) = older_index(self.word.as_ref(), history) else {
@@ -94,14 +93,14 @@ impl KeyPart for LastWords {
         action: Option<&Action>,
     )
         requires ready { Unit {0} }
-        ensures { option_map recalled_view self.new.word
-            ≡ last_word_after (option_map recalled_view self.old.word) (option_map recalled_view note)
+        ensures { self.new.word
+            ≡ last_word_after self.old.word (option_map (λ note. note) note)
             (step_of (event_view event.now) _searching _before.now _after.now
             (lent_action action.entry)) }
     {
         if note.is_some() {
             self.word = note;
-        } else if action.is_some() || !is_key(LAST_WORD, event) {
+        } else if action.is_some() || !is_key(key_of(Modifiers::ALT, '.'), event) {
             self.word = None;
         }
     }

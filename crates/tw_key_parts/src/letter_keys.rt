@@ -4,7 +4,6 @@ ghost use Rattle.std.specs.Prelude.{◌≡◌, IfOk, option_map};
 ghost use Rattle.tw_host.specs.ActionView.{action_view};
 ghost use Rattle.tw_host.specs.KeyTable.{looked_up};
 ghost use Rattle.tw_key_parts.specs.LetterKeys.{letter_table};
-ghost use Rattle.tw_key_parts.specs.LetterWords.{steps_to_word_end, steps_to_word_start};
 
 use crate::edit::Edit;
 use crate::letters::{steps_to_word_end, steps_to_word_start};
@@ -13,22 +12,6 @@ use std::alloc::{AllocError, Global};
 use tw_host::Action;
 use tw_input::{InputEvent, KeyCode, KeyEvent, Modifiers};
 use tw_line::{History, LineEditBuffer, Movement};
-
-/// Returns the movement past the next word.
-fn ahead(alloc: Global, editor: &LineEditBuffer) -> Result<Movement, AllocError>
-    ensures { IfOk result (λ movement. movement
-        ≡ Movement.ForwardChar (steps_to_word_end editor.now)) }
-{
-    Ok(Movement::ForwardChar(steps_to_word_end(alloc, editor)?))
-}
-
-/// Returns the movement to the start of the previous word.
-fn back(alloc: Global, editor: &LineEditBuffer) -> Result<Movement, AllocError>
-    ensures { IfOk result (λ movement. movement
-        ≡ Movement.BackwardChar (steps_to_word_start editor.now)) }
-{
-    Ok(Movement::BackwardChar(steps_to_word_start(alloc, editor)?))
-}
 
 /// Returns the action of a key.
 fn key_action(
@@ -41,15 +24,21 @@ fn key_action(
 {
     match (key.modifiers, key.key) {
         (Modifiers::CTRL, KeyCode::RightArrow) | (Modifiers::ALT, KeyCode::Char('f')) => {
-            Ok(Some(Action::Move(ahead(alloc, editor)?)))
+            let count = steps_to_word_end(alloc, editor)?;
+            Ok(Some(Action::Move(Movement::ForwardChar(count))))
         }
         (Modifiers::CTRL, KeyCode::LeftArrow) | (Modifiers::ALT, KeyCode::Char('b')) => {
-            Ok(Some(Action::Move(back(alloc, editor)?)))
+            let count = steps_to_word_start(alloc, editor)?;
+            Ok(Some(Action::Move(Movement::BackwardChar(count))))
         }
         (Modifiers::ALT, KeyCode::Char('d')) => {
-            Ok(Some(Action::KillAndMove(ahead(alloc, editor)?, Movement::None)))
+            let count = steps_to_word_end(alloc, editor)?;
+            Ok(Some(Action::KillAndMove(Movement::ForwardChar(count), Movement::None)))
         }
-        (Modifiers::ALT, KeyCode::Backspace) => Ok(Some(Action::Kill(back(alloc, editor)?))),
+        (Modifiers::ALT, KeyCode::Backspace) => {
+            let count = steps_to_word_start(alloc, editor)?;
+            Ok(Some(Action::Kill(Movement::BackwardChar(count))))
+        }
         _ => Ok(None),
     }
 }

@@ -7,21 +7,16 @@ use crate::steps::{Way, cluster_steps};
 use std::alloc::{AllocError, Global};
 use tw_line::LineEditBuffer;
 
-/// Returns true if a text begins with a letter or a digit.
-fn begins_with_letter(text: &str) -> bool
-    ensures { result ≡ begins_with_letter text.now }
-{
-    text.chars().next().is_some_and(|c| c.is_alphanumeric())
-}
-
 /// Returns true if a letter or a digit stands at the cursor.
 fn is_at_letter(editor: &LineEditBuffer) -> bool
     ensures { result ≡ begins_with_letter (drop editor.now.cursor editor.now.line) }
 {
-    begins_with_letter(&editor.get_line()[editor.get_cursor()..])
+    let rest = &editor.get_line()[editor.get_cursor()..];
+    rest.chars().next().is_some_and(|c| c.is_alphanumeric())
 }
 
 /// Returns the least number of steps, from `from` on, that lead to the last letter of a word.
+#[tactic(auto, using(crate::proofs::StepLemmas::walks))]
 fn last_letter(
     alloc: Global,
     way: Way,
@@ -35,11 +30,13 @@ fn last_letter(
 {
     let mut at = editor.try_clone(alloc)?;
     at.exec_movement(cluster_steps(way, from));
+    let mut is_letter = is_at_letter(&at);
     let end = from + editor.get_line().len();
     for count in from..end {
-        let is_letter = is_at_letter(&at);
         at.exec_movement(cluster_steps(way, 1));
-        if is_letter && !is_at_letter(&at) {
+        let was_letter = is_letter;
+        is_letter = is_at_letter(&at);
+        if was_letter && !is_letter {
             return Ok(Some(count));
         }
     }

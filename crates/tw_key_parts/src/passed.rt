@@ -17,6 +17,5 @@ pub fn passed_text(
     let mut moved = editor.try_clone(alloc)?;
     moved.exec_movement(movement);
     let (from, to) = (editor.get_cursor(), moved.get_cursor());
-    let text = &editor.get_line()[from.min(to)..from.max(to)];
-    String::from_str(alloc, text)
+    String::from_str(alloc, &editor.get_line()[from.min(to)..from.max(to)])
 }

@@ -6,55 +6,28 @@ ghost use Rattle.tw_input.specs.EventView.{event_view};
 ghost use Rattle.tw_key_parts.specs.EditView.{edit_view, lent_action};
 ghost use Rattle.tw_line.specs.Cut.{cut_at};
 ghost use Rattle.tw_key_parts.specs.KeyRules.{step_of};
-ghost use Rattle.tw_key_parts.specs.PrefixSearch.{is_prefix_key, is_prefix_match, newer_edit, newer_match, older_edit, older_match, oldest_edit, prefix_match_at, prefix_match_view, recalled_after, recalled_edit, shown, typed_edit};
-ghost use Rattle.tw_key_parts.specs.Recalled.{recalled_view};
+ghost use Rattle.tw_key_parts.specs.PrefixSearch.{is_prefix_key, is_prefix_match, newer_edit, newer_match, older_edit, older_match, oldest_edit, prefix_match_at, recalled_after, recalled_edit, shown};
 
 use crate::edit::Edit;
 use crate::part::KeyPart;
 use crate::recalled::{Recalled, line_before_recall, older_index};
 use std::alloc::{AllocError, Global};
 use tw_host::Action;
-use tw_input::{InputEvent, KeyCode, KeyEvent, Modifiers};
+use tw_input::{InputEvent, KeyCode, Modifiers};
 use tw_line::{History, LineEditBuffer, SearchDirection};
-
-/// Asks for an older line.
-const OLDER: KeyEvent = KeyEvent {
-    key: KeyCode::PageUp,
-    modifiers: Modifiers::NONE,
-};
-
-/// Asks for a newer line.
-const NEWER: KeyEvent = KeyEvent {
-    key: KeyCode::PageDown,
-    modifiers: Modifiers::NONE,
-};
-
-/// Asks for the oldest line.
-const OLDEST: KeyEvent = KeyEvent {
-    key: KeyCode::Char('<'),
-    modifiers: Modifiers::ALT,
-};
-
-/// Asks for the line before the search.
-const TYPED: KeyEvent = KeyEvent {
-    key: KeyCode::Char('>'),
-    modifiers: Modifiers::ALT,
-};
-
-/// A line of the history that is found.
-#[derive(Debug, Drop)]
-pub struct PrefixMatch {
-    /// The line.
-    pub line: LineEditBuffer,
-    /// Its index in the history.
-    pub index: usize,
-}
 
 /// Returns true for Page Up, Page Down, Alt-< and Alt->.
 pub fn is_prefix_key(event: &InputEvent) -> bool
     ensures { result ≡ is_prefix_key (event_view event.now) }
 {
-    matches!(event, InputEvent::Key(OLDER | NEWER | OLDEST | TYPED))
+    let InputEvent::Key(press) = event else {
+        return false;
+    };
+    match press.modifiers {
+        Modifiers::NONE => matches!(press.key, KeyCode::PageUp | KeyCode::PageDown),
+        Modifiers::ALT => matches!(press.key, KeyCode::Char('<' | '>')),
+        _ => false,
+    }
 }
 
 /// Returns a line with the cursor after the text that it begins with, or `None` if it begins otherwise.
@@ -77,8 +50,8 @@ fn match_at<L: History>(
     lines: &L,
     editor: &LineEditBuffer,
     index: usize,
-) -> Result<Option<PrefixMatch>, AllocError>
-    ensures { IfOk result (λ found. option_map prefix_match_view found
+) -> Result<Option<(LineEditBuffer, usize)>, AllocError>
+    ensures { IfOk result (λ found. found
         ≡ (if is_prefix_match (L.lines lines.now) editor.now index then
         Some (prefix_match_at (L.lines lines.now) editor.now index) else None)) }
 {
@@ -90,18 +63,19 @@ fn match_at<L: History>(
     }
     let text = &editor.get_line()[..editor.get_cursor()];
     let found = line_from(alloc, text, line.as_str())?;
-    Ok(found.map(|line| PrefixMatch { line, index }))
+    Ok(found.map(|line| (line, index)))
 }
 
 /// Returns the newest match up to an index.
+#[tactic(auto, using(crate::proofs::UndoLemmas::greatest_steps))]
 fn older_match_from<L: History>(
     alloc: Global,
     lines: &L,
     editor: &LineEditBuffer,
     from: usize,
-) -> Result<Option<PrefixMatch>, AllocError>
-    ensures { IfOk result (λ found. option_map prefix_match_view found
-        ≡ older_match (L.lines lines.now) editor.now (Some from)) }
+) -> Result<Option<(LineEditBuffer, usize)>, AllocError>
+    ensures { IfOk result (λ found. found
+        ≡ older_match (L.lines lines.now) editor.now from) }
 {
     for index in (0..=from).rev() {
         if let Some(found) = match_at(alloc, lines, editor, index)? {
@@ -112,14 +86,15 @@ fn older_match_from<L: History>(
 }
 
 /// Returns the oldest match from an index on.
+#[tactic(auto, using(crate::proofs::StepLemmas::least_steps, crate::proofs::PrefixLemmas::line_count))]
 fn newer_match_from<L: History>(
     alloc: Global,
     lines: &L,
     editor: &LineEditBuffer,
     from: usize,
-) -> Result<Option<PrefixMatch>, AllocError>
-    ensures { IfOk result (λ found. option_map prefix_match_view found
-        ≡ newer_match (L.lines lines.now) editor.now (Some from)) }
+) -> Result<Option<(LineEditBuffer, usize)>, AllocError>
+    ensures { IfOk result (λ found. found
+        ≡ newer_match (L.lines lines.now) editor.now from) }
 {
     let Some(last) = lines.last() else {
         return Ok(None);
@@ -134,8 +109,8 @@ fn newer_match_from<L: History>(
 
 /// Returns the edit that shows a line.
 fn shown(line: LineEditBuffer, recalled: Option<Recalled>) -> Edit<Option<Recalled>>
-    ensures { edit_view (option_map recalled_view) result
-        ≡ shown line (option_map recalled_view recalled) }
+    ensures { edit_view (λ note. note) result
+        ≡ shown line recalled }
 {
     Edit {
         line: Some(line),
@@ -145,11 +120,11 @@ fn shown(line: LineEditBuffer, recalled: Option<Recalled>) -> Edit<Option<Recall
 }
 
 /// Returns the edit that shows a match.
-fn recalled_edit(before: LineEditBuffer, found: PrefixMatch) -> Edit<Option<Recalled>>
-    ensures { edit_view (option_map recalled_view) result
-        ≡ recalled_edit before (prefix_match_view found) }
+fn recalled_edit(before: LineEditBuffer, found: (LineEditBuffer, usize)) -> Edit<Option<Recalled>>
+    ensures { edit_view (λ note. note) result
+        ≡ recalled_edit before found }
 {
-    let PrefixMatch { line, index } = found;
+    let (line, index) = found;
     shown(line, Some(Recalled { before, index }))
 }
 
@@ -160,9 +135,9 @@ fn older_edit<L: History>(
     recalled: Option<&Recalled>,
     editor: &LineEditBuffer,
 ) -> Result<Option<Edit<Option<Recalled>>>, AllocError>
-    ensures { IfOk result (λ edit. option_map (edit_view (option_map recalled_view)) edit
+    ensures { IfOk result (λ edit. option_map (edit_view (λ note. note)) edit
         ≡ older_edit (L.lines lines.now)
-        (option_map (λ recalled. recalled_view recalled.now) recalled.entry) editor.now) }
+        (option_map (λ recalled. recalled.now) recalled.entry) editor.now) }
 {
     let Some(from) = older_index(recalled, lines) else {
         return Ok(None);
@@ -181,30 +156,16 @@ fn oldest_edit<L: History>(
     recalled: Option<&Recalled>,
     editor: &LineEditBuffer,
 ) -> Result<Option<Edit<Option<Recalled>>>, AllocError>
-    ensures { IfOk result (λ edit. option_map (edit_view (option_map recalled_view)) edit
+    ensures { IfOk result (λ edit. option_map (edit_view (λ note. note)) edit
         ≡ oldest_edit (L.lines lines.now)
-        (option_map (λ recalled. recalled_view recalled.now) recalled.entry) editor.now) }
+        (option_map (λ recalled. recalled.now) recalled.entry) editor.now) }
 {
     let Some(oldest) = lines.get(alloc, 0)? else {
         return Ok(None);
     };
     let line = LineEditBuffer::new(alloc, oldest.as_str(), oldest.as_str().len())?;
     let before = line_before_recall(alloc, recalled, editor)?;
-    Ok(Some(recalled_edit(before, PrefixMatch { line, index: 0 })))
-}
-
-/// Returns the edit that goes back to the line before the search, if there is a search.
-fn typed_edit(
-    alloc: Global,
-    recalled: Option<&Recalled>,
-) -> Result<Option<Edit<Option<Recalled>>>, AllocError>
-    ensures { IfOk result (λ edit. option_map (edit_view (option_map recalled_view)) edit
-        ≡ typed_edit (option_map (λ recalled. recalled_view recalled.now) recalled.entry)) }
-{
-    match recalled {
-        Some(recalled) => Ok(Some(shown(recalled.before.try_clone(alloc)?, None))),
-        None => Ok(None),
-    }
+    Ok(Some(recalled_edit(before, (line, 0))))
 }
 
 /// Returns the edit that goes to the next newer match, or else to the line before the search.
@@ -214,9 +175,9 @@ fn newer_edit<L: History>(
     recalled: Option<&Recalled>,
     editor: &LineEditBuffer,
 ) -> Result<Option<Edit<Option<Recalled>>>, AllocError>
-    ensures { IfOk result (λ edit. option_map (edit_view (option_map recalled_view)) edit
+    ensures { IfOk result (λ edit. option_map (edit_view (λ note. note)) edit
         ≡ newer_edit (L.lines lines.now)
-        (option_map (λ recalled. recalled_view recalled.now) recalled.entry) editor.now) }
+        (option_map (λ recalled. recalled.now) recalled.entry) editor.now) }
 {
     let Some(recalled) = recalled else {
         return Ok(None);
@@ -244,26 +205,26 @@ pub struct PrefixSearch {
 impl PrefixSearch {
     /// Creates the part with no search in progress.
     pub fn new() -> Self
-        ensures { option_map recalled_view result.recalled ≡ None }
+        ensures { result.recalled ≡ None }
     {
         PrefixSearch { recalled: None }
     }
 }
 
 impl KeyPart for PrefixSearch {
-    ghost use Rattle.std.specs.Prelude.{Option, option_map};
+    ghost use Rattle.std.specs.Prelude.{Option};
     ghost use Rattle.tw_key_parts.specs.PrefixSearch.{prefix_key_rules};
-    ghost use Rattle.tw_key_parts.specs.Recalled.{RecalledView, recalled_view};
+    ghost use Rattle.tw_key_parts.specs.declared.recalled.Recalled.{Recalled};
 
     type Note = Option<Recalled>;
 
-    ghost State = { Option RecalledView };
+    ghost State = { Option Recalled };
 
-    ghost Kept = { Option RecalledView };
+    ghost Kept = { Option Recalled };
 
-    ghost state = { λ it. option_map recalled_view it.recalled };
+    ghost state = { λ it. it.recalled };
 
-    ghost kept = { option_map recalled_view };
+    ghost kept = { λ note. note };
 
     ghost keys = { prefix_key_rules };
 
@@ -277,15 +238,21 @@ impl KeyPart for PrefixSearch {
         event: &InputEvent,
         line: &LineEditBuffer,
     ) -> Result<Option<Edit<Option<Recalled>>>, AllocError> {
+        let InputEvent::Key(press) = event else {
+            return Ok(None);
+        };
         if searching {
             return Ok(None);
         }
         let recalled = self.recalled.as_ref();
-        match event {
-            InputEvent::Key(OLDER) => older_edit(alloc, history, recalled, line),
-            InputEvent::Key(NEWER) => newer_edit(alloc, history, recalled, line),
-            InputEvent::Key(OLDEST) => oldest_edit(alloc, history, recalled, line),
-            InputEvent::Key(TYPED) => typed_edit(alloc, recalled),
+        match (press.modifiers, press.key) {
+            (Modifiers::NONE, KeyCode::PageUp) => older_edit(alloc, history, recalled, line),
+            (Modifiers::NONE, KeyCode::PageDown) => newer_edit(alloc, history, recalled, line),
+            (Modifiers::ALT, KeyCode::Char('<')) => oldest_edit(alloc, history, recalled, line),
+            (Modifiers::ALT, KeyCode::Char('>')) => match recalled {
+                Some(recalled) => Ok(Some(shown(recalled.before.try_clone(alloc)?, None))),
+                None => Ok(None),
+            },
             _ => Ok(None),
         }
     }
@@ -305,9 +272,8 @@ impl KeyPart for PrefixSearch {
         action: Option<&Action>,
     )
         requires ready { Unit {0} }
-        ensures { option_map recalled_view self.new.recalled
-            ≡ recalled_after (option_map recalled_view self.old.recalled)
-            (option_map (option_map recalled_view) note)
+        ensures { self.new.recalled
+            ≡ recalled_after self.old.recalled (option_map (λ note. note) note)
             (step_of (event_view event.now) _searching _before.now _after.now
             (lent_action action.entry)) }
     {

@@ -1,7 +1,7 @@
 //! What was recalled of a history last.
 
 ghost use Rattle.std.specs.Prelude.{◌≡◌, IfOk, option_map};
-ghost use Rattle.tw_key_parts.specs.Recalled.{line_before_recall, older_index, recalled_view};
+ghost use Rattle.tw_key_parts.specs.Recalled.{line_before_recall, older_index};
 
 use std::alloc::{AllocError, Global};
 use tw_line::{History, LineEditBuffer, SearchDirection};
@@ -22,7 +22,7 @@ pub fn line_before_recall(
     editor: &LineEditBuffer,
 ) -> Result<LineEditBuffer, AllocError>
     ensures { IfOk result (λ line. line
-        ≡ line_before_recall (option_map (λ recalled. recalled_view recalled.now) recalled.entry)
+        ≡ line_before_recall (option_map (λ recalled. recalled.now) recalled.entry)
         editor.now) }
 {
     let line = recalled.map_or(editor, |recalled| &recalled.before);
@@ -32,7 +32,7 @@ pub fn line_before_recall(
 /// Returns the index of the next older line: before the one that was recalled last, or else the last line.
 pub fn older_index<L: History>(recalled: Option<&Recalled>, history: &L) -> Option<usize>
     ensures { result ≡ older_index
-        (option_map (λ recalled. recalled_view recalled.now) recalled.entry)
+        (option_map (λ recalled. recalled.now) recalled.entry)
         (L.lines history.now) }
 {
     match recalled {

@@ -1,21 +1,20 @@
 //! The kill ring.
 
-ghost use Rattle.std.specs.Prelude.{◌≡◌, ◌≤◌, ◌+◌, ◌<◌, ◌-◌, ◌++◌, ◌∷◌, [], false, length, map, take, IfOk, Some, option_map, string_bytes};
+ghost use Rattle.std.specs.Prelude.{◌≡◌, ◌≤◌, ◌+◌, ◌<◌, ◌-◌, [], false, length, map, IfOk, option_map, string_bytes};
 ghost use Rattle.std.specs.String.{string_capacity};
 ghost use Rattle.std.specs.Vec.{vec_capacity, vec_len};
 ghost use Rattle.tw_input.specs.EventView.{event_view};
 ghost use Rattle.tw_key_parts.specs.EditView.{edit_view, lent_action};
 ghost use Rattle.tw_key_parts.specs.declared.ring.Latest.TheVariants as Latest;
-ghost use Rattle.tw_key_parts.specs.Ring.{index_below, is_same_cut, joined_kill, killing, newest_kill, ring_view, rotated, taken_out, with_killed, with_killing, with_room, yank_edit, yank_of};
+ghost use Rattle.tw_key_parts.specs.Ring.{IsReady, index_below, is_same_cut, killing, newest_kill, ring_view, ring_follows, rotated, taken_out, with_killed, with_killing, yank_edit, yank_of};
 ghost use Rattle.tw_key_parts.specs.KeyRules.{step_of};
-ghost use Rattle.tw_key_parts.specs.Ring.{ring_follows};
 
 use crate::edit::Edit;
-use crate::keys::{ROTATE, YANK, deletes_character};
+use crate::keys::{deletes_character, is_key, key_of};
 use crate::part::KeyPart;
 use std::alloc::{AllocError, Global};
 use tw_host::Action;
-use tw_input::InputEvent;
+use tw_input::{InputEvent, Modifiers};
 use tw_line::{History, LineEditBuffer, Movement};
 
 /// The number of kills that are kept.
@@ -70,7 +69,7 @@ fn taken_out(
     text: &str,
     editor: &LineEditBuffer,
 ) -> Result<Option<LineEditBuffer>, AllocError>
-    ensures { IfOk result (λ line. line ≡ taken_out (Some text.now) editor.now) }
+    ensures { IfOk result (λ line. line ≡ taken_out editor.now text.now) }
 {
     let (before, behind) = editor.get_line().split_at(editor.get_cursor());
     let Some(rest) = before.strip_suffix(text) else {
@@ -94,47 +93,9 @@ impl KillRing {
         }
     }
 
-    /// Joins a kill to the newest one.
-    fn join(&mut self, ahead: bool, killed: &str, mut text: String)
-        requires empty { string_bytes text ≡ [] }
-        requires text { length (newest_kill (map string_bytes self.old.kills.items))
-            + length killed.now ≤ string_capacity text }
-        requires kills { vec_len self.old.kills < vec_capacity self.old.kills }
-        ensures kills { map string_bytes self.new.kills.items
-            ≡ take (length self.old.kills.items - 1) (map string_bytes self.old.kills.items)
-            ++ joined_kill ahead (newest_kill (map string_bytes self.old.kills.items)) killed.now ∷ [] }
-        ensures latest { self.new.latest ≡ self.old.latest }
-    {
-        let newest = self.kills.pop();
-        let newest = newest.as_ref().map_or("", |newest| newest.as_str());
-        let (front, back) = if ahead {
-            (newest, killed)
-        } else {
-            (killed, newest)
-        };
-        text.push_str(front).unwrap();
-        text.push_str(back).unwrap();
-        self.kills.push(text).unwrap();
-    }
-
-    /// Adds a kill, and drops the oldest one if there are ten.
-    fn add(&mut self, killed: &str, mut text: String)
-        requires empty { string_bytes text ≡ [] }
-        requires text { length killed.now ≤ string_capacity text }
-        requires kills { vec_len self.old.kills < vec_capacity self.old.kills }
-        ensures kills { map string_bytes self.new.kills.items
-            ≡ with_room (map string_bytes self.old.kills.items) ++ killed.now ∷ [] }
-        ensures latest { self.new.latest ≡ self.old.latest }
-    {
-        text.push_str(killed).unwrap();
-        if self.kills.len() >= MOST_KILLS {
-            let _oldest = self.kills.remove(0);
-        }
-        self.kills.push(text).unwrap();
-    }
-
-    /// Adds or joins a kill, unless it is empty.
-    fn take_in(&mut self, ahead: bool, killed: &str, text: String)
+    /// Joins a kill to the newest one if that was the last edit. Otherwise adds it, and drops the oldest one if there
+    /// are ten. An empty kill is none.
+    fn take_in(&mut self, ahead: bool, killed: &str, mut text: String)
         requires empty { string_bytes text ≡ [] }
         requires text { length (newest_kill (map string_bytes self.old.kills.items))
             + length killed.now ≤ string_capacity text }
@@ -144,9 +105,24 @@ impl KillRing {
         match (killed.is_empty(), self.latest) {
             (true, Latest::Kill) => {}
             (true, _) => self.latest = Latest::Other,
-            (false, Latest::Kill) => self.join(ahead, killed, text),
+            (false, Latest::Kill) => {
+                let newest = self.kills.pop();
+                let newest = newest.as_ref().map_or("", |newest| newest.as_str());
+                let (front, back) = if ahead {
+                    (newest, killed)
+                } else {
+                    (killed, newest)
+                };
+                text.push_str(front).unwrap();
+                text.push_str(back).unwrap();
+                self.kills.push(text).unwrap();
+            }
             (false, _) => {
-                self.add(killed, text);
+                text.push_str(killed).unwrap();
+                if self.kills.len() >= MOST_KILLS {
+                    let _oldest = self.kills.remove(0);
+                }
+                self.kills.push(text).unwrap();
                 self.latest = Latest::Kill;
             }
         }
@@ -154,10 +130,7 @@ impl KillRing {
 
     /// Keeps what a movement kills; `None` ends a run of kills or yanks.
     fn kill(&mut self, alloc: Global, movement: Option<Movement>)
-        requires empty { string_bytes self.old.spare ≡ [] }
-        requires text { length (newest_kill (map string_bytes self.old.kills.items))
-            + length self.old.probe.line ≤ string_capacity self.old.spare }
-        requires kills { vec_len self.old.kills < vec_capacity self.old.kills }
+        requires { IsReady self.old self.old.probe }
         ensures { ring_view self.new ≡ with_killing movement self.old.probe (ring_view self.old) }
     {
         let Some(movement) = movement else {
@@ -227,10 +200,8 @@ impl KillRing {
 }
 
 impl KeyPart for KillRing {
-    ghost use Rattle.std.specs.Prelude.{◌≡◌, ◌<◌, ◌≤◌, ◌+◌, ℕ, [], length, map, string_bytes};
-    ghost use Rattle.std.specs.String.{string_capacity};
-    ghost use Rattle.std.specs.Vec.{vec_capacity, vec_len};
-    ghost use Rattle.tw_key_parts.specs.Ring.{Ring, newest_kill, ring_key_rules, ring_view};
+    ghost use Rattle.std.specs.Prelude.{ℕ};
+    ghost use Rattle.tw_key_parts.specs.Ring.{IsReady, Ring, ring_key_rules, ring_view};
 
     type Note = usize;
 
@@ -244,10 +215,7 @@ impl KeyPart for KillRing {
 
     ghost keys = { ring_key_rules };
 
-    ghost is_ready = { λ it cut. (it.probe ≡ cut) × (string_bytes it.spare ≡ [])
-        × (length (newest_kill (map string_bytes it.kills.items)) + length cut.line
-        ≤ string_capacity it.spare)
-        × (vec_len it.kills < vec_capacity it.kills) };
+    ghost is_ready = { IsReady };
 
     fn edit<L: History>(
         &self,
@@ -260,13 +228,13 @@ impl KeyPart for KillRing {
         if searching {
             return Ok(None);
         }
-        match event {
-            InputEvent::Key(YANK) => {
-                let newest = self.kills.len().saturating_sub(1);
-                self.yank(alloc, newest, line.try_clone(alloc)?)
-            }
-            InputEvent::Key(ROTATE) => self.rotate(alloc, line),
-            _ => Ok(None),
+        if is_key(key_of(Modifiers::CTRL, 'Y'), event) {
+            let newest = self.kills.len().saturating_sub(1);
+            self.yank(alloc, newest, line.try_clone(alloc)?)
+        } else if is_key(key_of(Modifiers::ALT, 'y'), event) {
+            self.rotate(alloc, line)
+        } else {
+            Ok(None)
         }
     }
 
@@ -289,10 +257,7 @@ impl KeyPart for KillRing {
         after: &LineEditBuffer,
         action: Option<&Action>,
     )
-        requires ready { (self.old.probe ≡ before.now) × (string_bytes self.old.spare ≡ [])
-            × (length (newest_kill (map string_bytes self.old.kills.items)) + length before.now.line
-            ≤ string_capacity self.old.spare)
-            × (vec_len self.old.kills < vec_capacity self.old.kills) }
+        requires ready { IsReady self.old before.now }
         ensures { ring_view self.new
             ≡ ring_follows (ring_view self.old) (option_map (λ index. index) note)
             (step_of (event_view event.now) searching before.now after.now

@@ -1,11 +1,12 @@
 //! Keys for lines of several rows.
 
-ghost use Rattle.std.specs.Prelude.{◌≡◌, ◌≤◌, ◌<◌, ◌+◌, ◌-◌, IfOk, IsCharBoundary, length, option_map, string_bytes};
+ghost use Rattle.std.specs.Prelude.{◌≡◌, ◌≤◌, ◌<◌, ◌+◌, ◌-◌, IfOk, IfSome, IsCharBoundary, length, option_map, string_bytes};
 ghost use Rattle.std.specs.Option.{option_flatten};
 ghost use Rattle.tw_host.specs.ActionView.{action_view};
 ghost use Rattle.tw_input.specs.EventView.{event_view};
 ghost use Rattle.tw_key_parts.specs.EditView.{edit_view};
-ghost use Rattle.tw_key_parts.specs.RowKeys.{cursor_column, edit_by, edit_of_pattern, goal_column, has_reached, has_rows, in_one_row, killed_to_end, move_to, moved_down, moved_to_end, moved_to_start, moved_up, place_in_row, row_character, row_edit, row_end, row_key, row_start, steps_to};
+ghost use Rattle.tw_key_parts.specs.declared.steps.Way.TheVariants as Way;
+ghost use Rattle.tw_key_parts.specs.RowKeys.{edit_by, edit_of_pattern, goal_column, has_reached, has_rows, in_one_row, killed_to_end, move_to, place_beside, edge_of_row, row_edit, row_end, row_key, row_start, steps_to};
 
 use crate::edit::Edit;
 use crate::part::KeyPart;
@@ -20,14 +21,10 @@ use tw_line::{History, LineEditBuffer, Movement};
 pub enum RowKey {
     /// Begins a row.
     Break,
-    /// Goes to the row above.
-    Up,
-    /// Goes to the row below.
-    Down,
-    /// Goes to the start of the row.
-    Start,
-    /// Goes to the end of the row.
-    End,
+    /// Goes to the row above or below.
+    ToRow(Way),
+    /// Goes to the start or the end of the row.
+    ToEdge(Way),
     /// Kills to the end of the row.
     KillToEnd,
 }
@@ -42,14 +39,14 @@ pub fn row_key(event: &InputEvent) -> Option<RowKey>
     match (press.modifiers, press.key) {
         (Modifiers::ALT, KeyCode::Enter) => Some(RowKey::Break),
         (Modifiers::NONE, KeyCode::UpArrow | KeyCode::ApplicationUpArrow)
-        | (Modifiers::CTRL, KeyCode::Char('P')) => Some(RowKey::Up),
+        | (Modifiers::CTRL, KeyCode::Char('P')) => Some(RowKey::ToRow(Way::Back)),
         (Modifiers::NONE, KeyCode::DownArrow | KeyCode::ApplicationDownArrow)
-        | (Modifiers::CTRL, KeyCode::Char('N')) => Some(RowKey::Down),
+        | (Modifiers::CTRL, KeyCode::Char('N')) => Some(RowKey::ToRow(Way::Ahead)),
         (Modifiers::NONE, KeyCode::Home) | (Modifiers::CTRL, KeyCode::Char('A')) => {
-            Some(RowKey::Start)
+            Some(RowKey::ToEdge(Way::Back))
         }
         (Modifiers::NONE, KeyCode::End) | (Modifiers::CTRL, KeyCode::Char('E')) => {
-            Some(RowKey::End)
+            Some(RowKey::ToEdge(Way::Ahead))
         }
         (Modifiers::CTRL, KeyCode::Char('K')) => Some(RowKey::KillToEnd),
         _ => None,
@@ -74,7 +71,6 @@ fn row_start(line: &str, at: usize) -> usize
 fn row_end(line: &str, at: usize) -> usize
     requires { IsCharBoundary line.now at }
     ensures value { result ≡ row_end line.now at }
-    ensures boundary { IsCharBoundary line.now result }
     ensures within { result ≤ length line.now }
     ensures below { result < length line.now → IsCharBoundary line.now (result + 1) }
 {
@@ -95,6 +91,7 @@ fn has_reached(way: Way, to: usize, at: usize) -> bool
 }
 
 /// Returns the number of grapheme clusters from the cursor to an offset.
+#[tactic(auto, using(crate::proofs::StepLemmas::walks))]
 fn steps_to(
     alloc: Global,
     way: Way,
@@ -114,96 +111,57 @@ fn steps_to(
     Ok(most)
 }
 
-/// Returns the column of the cursor in its row, in grapheme clusters.
-fn cursor_column(alloc: Global, editor: &LineEditBuffer) -> Result<usize, AllocError>
-    ensures { IfOk result (λ column. column ≡ cursor_column editor.now) }
+/// Returns the start of the cursor's row if it is not the first one, or its end if it is not the last.
+fn edge_of_row(way: Way, editor: &LineEditBuffer) -> Option<usize>
+    ensures value { result ≡ edge_of_row way editor.now }
+    ensures above { way ≡ Way.Back
+        → IfSome result (λ start. (0 < start) × IsCharBoundary editor.now.line (start - 1)) }
+    ensures below { way ≡ Way.Ahead
+        → IfSome result (λ end. IsCharBoundary editor.now.line (end + 1)) }
 {
-    let start = row_start(editor.get_line(), editor.get_cursor());
-    steps_to(alloc, Way::Back, start, editor)
+    let (line, at) = (editor.get_line(), editor.get_cursor());
+    match way {
+        Way::Back => Some(row_start(line, at)).filter(|start| *start > 0),
+        Way::Ahead => Some(row_end(line, at)).filter(|end| *end < line.len()),
+    }
 }
 
-/// Returns the offset of a column in the row that begins at `start`, or the end of a shorter row.
-fn place_in_row(alloc: Global, line: &str, start: usize, column: usize) -> Result<usize, AllocError>
-    requires { IsCharBoundary line.now start }
-    ensures { IfOk result (λ place. place ≡ place_in_row line.now start column) }
+/// Returns the offset of a column in the row above or below, or the end of a shorter row, if there is such a row.
+fn place_beside(
+    alloc: Global,
+    way: Way,
+    column: usize,
+    editor: &LineEditBuffer,
+) -> Result<Option<usize>, AllocError>
+    ensures { IfOk result (λ place. place ≡ place_beside way column editor.now) }
 {
+    let Some(edge) = edge_of_row(way, editor) else {
+        return Ok(None);
+    };
+    let line = editor.get_line();
+    let start = match way {
+        Way::Back => row_start(line, edge - 1),
+        Way::Ahead => edge + 1,
+    };
     let mut walker = LineEditBuffer::new(alloc, line, start)?;
     walker.exec_movement(Movement::ForwardChar(column));
-    Ok(walker.get_cursor().min(row_end(line, start)))
+    Ok(Some(walker.get_cursor().min(row_end(line, start))))
 }
 
-/// Returns the movement of the cursor to an offset.
+/// Returns the movement of the cursor to an offset, if there is one.
 fn move_to(
     alloc: Global,
     way: Way,
-    to: usize,
+    to: Option<usize>,
     editor: &LineEditBuffer,
-) -> Result<Action, AllocError>
-    ensures { IfOk result (λ action. action_view action ≡ move_to way to editor.now) }
+) -> Result<Option<Action>, AllocError>
+    ensures { IfOk result (λ action. option_map action_view action ≡ move_to way to editor.now) }
 {
+    let Some(to) = to else {
+        return Ok(None);
+    };
     let count = steps_to(alloc, way, to, editor)?;
-    Ok(Action::Move(cluster_steps(way, count)))
-}
-
-/// Returns the movement to a column of the row above, if there is one.
-fn moved_up(
-    alloc: Global,
-    column: usize,
-    editor: &LineEditBuffer,
-) -> Result<Option<Action>, AllocError>
-    ensures { IfOk result (λ action. option_map action_view action
-        ≡ moved_up column editor.now) }
-{
-    let line = editor.get_line();
-    let start = row_start(line, editor.get_cursor());
-    if start == 0 {
-        return Ok(None);
-    }
-    let above = row_start(line, start - 1);
-    let to = place_in_row(alloc, line, above, column)?;
-    Ok(Some(move_to(alloc, Way::Back, to, editor)?))
-}
-
-/// Returns the movement to a column of the row below, if there is one.
-fn moved_down(
-    alloc: Global,
-    column: usize,
-    editor: &LineEditBuffer,
-) -> Result<Option<Action>, AllocError>
-    ensures { IfOk result (λ action. option_map action_view action
-        ≡ moved_down column editor.now) }
-{
-    let line = editor.get_line();
-    let end = row_end(line, editor.get_cursor());
-    if end == line.len() {
-        return Ok(None);
-    }
-    let to = place_in_row(alloc, line, end + 1, column)?;
-    Ok(Some(move_to(alloc, Way::Ahead, to, editor)?))
-}
-
-/// Returns the movement to the start of the row, unless it is the first.
-fn moved_to_start(alloc: Global, editor: &LineEditBuffer) -> Result<Option<Action>, AllocError>
-    ensures { IfOk result (λ action. option_map action_view action
-        ≡ moved_to_start editor.now) }
-{
-    let start = row_start(editor.get_line(), editor.get_cursor());
-    if start == 0 {
-        return Ok(None);
-    }
-    Ok(Some(move_to(alloc, Way::Back, start, editor)?))
-}
-
-/// Returns the movement to the end of the row, unless it is the last.
-fn moved_to_end(alloc: Global, editor: &LineEditBuffer) -> Result<Option<Action>, AllocError>
-    ensures { IfOk result (λ action. option_map action_view action
-        ≡ moved_to_end editor.now) }
-{
-    let end = row_end(editor.get_line(), editor.get_cursor());
-    if end == editor.get_line().len() {
-        return Ok(None);
-    }
-    Ok(Some(move_to(alloc, Way::Ahead, end, editor)?))
+    Ok(Some(Action::Move(cluster_steps(way, count))))
 }
 
 /// Returns the kill of the rest of the row, or at its end of the line feed, unless the row is the last.
@@ -211,10 +169,9 @@ fn killed_to_end(alloc: Global, editor: &LineEditBuffer) -> Result<Option<Action
     ensures { IfOk result (λ action. option_map action_view action
         ≡ killed_to_end editor.now) }
 {
-    let end = row_end(editor.get_line(), editor.get_cursor());
-    if end == editor.get_line().len() {
+    let Some(end) = edge_of_row(Way::Ahead, editor) else {
         return Ok(None);
-    }
+    };
     let count = steps_to(alloc, Way::Ahead, end, editor)?.max(1);
     Ok(Some(Action::KillAndMove(Movement::ForwardChar(count), Movement::None)))
 }
@@ -226,25 +183,13 @@ fn has_rows(text: &str) -> bool
     text.as_bytes().iter().any(|byte| *byte == b'\n')
 }
 
-/// Returns a character of a row: a space for a line feed.
-fn row_character(character: char) -> char
-    ensures { result ≡ row_character character }
-{
-    match character {
-        '\n' => ' ',
-        _ => character,
-    }
-}
-
 /// Returns a text with a space for each line feed.
 fn in_one_row(alloc: Global, text: &str) -> Result<String, AllocError>
     ensures { IfOk result (λ row. string_bytes row ≡ in_one_row text.now) }
 {
-    let mut row = String::new(alloc);
-    for character in text.chars() {
-        row.push(row_character(character))?;
-    }
-    Ok(row)
+    text.chars()
+        .map(|c| if c == '\n' { ' ' } else { c })
+        .collect(alloc)
 }
 
 /// Returns the edit of an event during a search, whose pattern has one row: a pasted text of several rows is joined.
@@ -296,13 +241,16 @@ impl RowKeys {
         RowKeys { goal: None }
     }
 
-    /// Returns the column where a run of Up and Down began.
+    /// Returns the column where a run of Up and Down began, or else the column of the cursor, in grapheme clusters.
     fn goal_column(&self, alloc: Global, line: &LineEditBuffer) -> Result<usize, AllocError>
         ensures { IfOk result (λ column. column ≡ goal_column self.now.goal line.now) }
     {
         match self.goal {
             Some(column) => Ok(column),
-            None => cursor_column(alloc, line),
+            None => {
+                let start = row_start(line.get_line(), line.get_cursor());
+                steps_to(alloc, Way::Back, start, line)
+            }
         }
     }
 
@@ -318,16 +266,14 @@ impl RowKeys {
     {
         match key {
             RowKey::Break => Ok(row_edit(None, Some(Action::InsertChar(1, '\n')))),
-            RowKey::Up => {
+            RowKey::ToRow(way) => {
                 let column = self.goal_column(alloc, line)?;
-                Ok(row_edit(Some(column), moved_up(alloc, column, line)?))
+                let place = place_beside(alloc, way, column, line)?;
+                Ok(row_edit(Some(column), move_to(alloc, way, place, line)?))
             }
-            RowKey::Down => {
-                let column = self.goal_column(alloc, line)?;
-                Ok(row_edit(Some(column), moved_down(alloc, column, line)?))
+            RowKey::ToEdge(way) => {
+                Ok(row_edit(None, move_to(alloc, way, edge_of_row(way, line), line)?))
             }
-            RowKey::Start => Ok(row_edit(None, moved_to_start(alloc, line)?)),
-            RowKey::End => Ok(row_edit(None, moved_to_end(alloc, line)?)),
             RowKey::KillToEnd => Ok(row_edit(None, killed_to_end(alloc, line)?)),
         }
     }

@@ -4,16 +4,15 @@ ghost use Rattle.std.specs.Prelude.{◌≡◌, ◌<◌, IfSome, length, option_m
 ghost use Rattle.std.specs.Vec.{vec_capacity, vec_len};
 ghost use Rattle.tw_input.specs.EventView.{event_view};
 ghost use Rattle.tw_key_parts.specs.EditView.{lent_action};
-ghost use Rattle.tw_key_parts.specs.Undo.{if_any, is_edit, is_end, is_same_line, is_undo, last_change, types_character, no_steps, steps_with, typing_after, undo_view};
+ghost use Rattle.tw_key_parts.specs.Undo.{begins_step, if_any, is_edit, is_same_line, is_undo, last_change, types_character, no_steps, typing_after, undo_follows, undo_view};
 ghost use Rattle.tw_key_parts.specs.KeyRules.{step_of};
-ghost use Rattle.tw_key_parts.specs.Undo.{undo_follows};
 
 use crate::edit::Edit;
-use crate::keys::{PREFIXED_UNDO, UNDO, UNDO_PREFIX, is_key};
+use crate::keys::{is_key, key_of};
 use crate::part::KeyPart;
 use std::alloc::{AllocError, Global};
 use tw_host::Action;
-use tw_input::InputEvent;
+use tw_input::{InputEvent, Modifiers};
 use tw_line::{History, LineEditBuffer};
 
 /// Ctrl-_ undoes the last step: it restores the line before it, with its cursor. So does Ctrl-X Ctrl-U, if this part
@@ -63,16 +62,6 @@ fn types_character(action: Option<&Action>) -> bool
     matches!(action, Some(Action::InsertChar(_, _)))
 }
 
-/// Returns true for an action that ends the line.
-fn is_end(action: Option<&Action>) -> bool
-    ensures { result ≡ if_any is_end (lent_action action.entry) }
-{
-    matches!(
-        action,
-        Some(Action::AcceptLine | Action::Cancel | Action::EndOfFile)
-    )
-}
-
 /// Returns true if the last step is a run of typed characters that may go on.
 fn typing_after(action: Option<&Action>, typing: bool) -> bool
     ensures { result ≡ typing_after (lent_action action.entry) typing }
@@ -81,6 +70,14 @@ fn typing_after(action: Option<&Action>, typing: bool) -> bool
         None | Some(Action::NoAction | Action::Repaint) => typing,
         Some(_) => types_character(action),
     }
+}
+
+/// Returns true if a step begins: an edit that does not continue a run of typing, or a change of the line.
+fn begins_step(action: Option<&Action>, is_same: bool, typing: bool) -> bool
+    ensures { result ≡ begins_step (lent_action action.entry) is_same typing }
+{
+    let goes_on = typing && types_character(action) && is_same;
+    (is_edit(action) || !is_same) && !goes_on
 }
 
 impl UndoSteps {
@@ -100,10 +97,12 @@ impl UndoSteps {
     fn is_undo(&self, event: &InputEvent) -> bool
         ensures { result ≡ is_undo (undo_view self.now) (event_view event.now) }
     {
-        is_key(UNDO, event) || (self.prefixed && is_key(PREFIXED_UNDO, event))
+        is_key(key_of(Modifiers::CTRL, '_'), event)
+            || (self.prefixed && is_key(key_of(Modifiers::CTRL, 'U'), event))
     }
 
     /// Returns the index of the last step that changed the line.
+    #[tactic(auto, using(std::proofs::lemmas::List::get_or_read, crate::proofs::UndoLemmas::greatest_steps))]
     fn last_change(&self, line: &LineEditBuffer) -> Option<usize>
         ensures index { result ≡ last_change line.now.line self.now.before.items }
         ensures inside { IfSome result (λ at. at < length self.now.before.items) }
@@ -114,29 +113,6 @@ impl UndoSteps {
             }
         }
         None
-    }
-
-    /// Adds a step if one begins.
-    fn begin_step(
-        &mut self,
-        alloc: Global,
-        action: Option<&Action>,
-        before: &LineEditBuffer,
-        after: &LineEditBuffer,
-    )
-        requires spare { self.old.spare ≡ before.now }
-        requires room { vec_len self.old.before < vec_capacity self.old.before }
-        ensures before { self.new.before.items
-            ≡ steps_with (lent_action action.entry) before.now after.now (undo_view self.old) }
-        ensures typing { self.new.typing ≡ self.old.typing }
-        ensures prefixed { self.new.prefixed ≡ self.old.prefixed }
-    {
-        let is_same = is_same_line(before, after);
-        let goes_on = self.typing && types_character(action) && is_same;
-        if (is_edit(action) || !is_same) && !goes_on {
-            let line = std::mem::replace(&mut self.spare, LineEditBuffer::empty(alloc));
-            self.before.push(line).unwrap();
-        }
     }
 }
 
@@ -212,16 +188,16 @@ impl KeyPart for UndoSteps {
                 self.prefixed = false;
             }
             None => {
-                let typing = !searching
-                    && typing_after(action, self.typing)
-                    && is_same_line(before, after);
-                if is_end(action) {
+                let is_same = !searching && is_same_line(before, after);
+                let begins = begins_step(action, is_same, self.typing);
+                self.typing = typing_after(action, self.typing) && is_same;
+                self.prefixed = action.is_none() && is_key(key_of(Modifiers::CTRL, 'X'), event);
+                if let Some(Action::AcceptLine | Action::Cancel | Action::EndOfFile) = action {
                     self.before.clear();
-                } else if !searching {
-                    self.begin_step(alloc, action, before, after);
+                } else if begins && !searching {
+                    let line = std::mem::replace(&mut self.spare, LineEditBuffer::empty(alloc));
+                    self.before.push(line).unwrap();
                 }
-                self.typing = typing;
-                self.prefixed = action.is_none() && is_key(UNDO_PREFIX, event);
             }
         }
     }

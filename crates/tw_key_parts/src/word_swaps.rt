@@ -1,20 +1,21 @@
 //! Words that change places.
 
-ghost use Rattle.std.specs.Prelude.{◌≡◌, IfOk, option_map, string_bytes};
+ghost use Rattle.std.specs.Prelude.{◌≡◌, IfOk, IsCharBoundary, option_map, string_bytes, take};
 ghost use Rattle.std.specs.Str.{trim_end};
-ghost use Rattle.tw_key_parts.specs.WordSwaps.{after_blanks, before_last_word, final_word, past_word, swapped_words, with_swapped_words};
+ghost use Rattle.tw_key_parts.specs.WordSwaps.{after_words, before_last_word, final_word, past_word, swapped_words, with_swapped_words};
 
 use crate::passed::passed_text;
 use std::alloc::{AllocError, Global};
 use tw_line::{LineEditBuffer, Movement};
 
-/// Splits a text before the whitespace at its end.
-fn split_blanks(text: &str) -> (&str, &str)
-    ensures words { result.0.now ≡ trim_end text.now }
-    ensures blanks { result.1.now ≡ after_blanks text.now }
+/// Splits a line after the last word before an offset.
+fn split_words(line: &str, end: usize) -> (&str, &str)
+    requires { IsCharBoundary line.now end }
+    ensures words { result.0.now ≡ trim_end (take end line.now) }
+    ensures rest { result.1.now ≡ after_words end line.now }
 {
-    let words = text.trim_end();
-    text.split_at(words.len())
+    let (front, _) = line.split_at(end);
+    line.split_at(front.trim_end().len())
 }
 
 /// Splits a text that does not end in whitespace before its last word.
@@ -36,7 +37,7 @@ fn swapped_words(alloc: Global, text: &str) -> Result<Option<String>, AllocError
     ensures { IfOk result (λ swapped. option_map string_bytes swapped ≡ swapped_words text.now) }
 {
     let (before, second) = split_last_word(alloc, text)?;
-    let (head, blanks) = split_blanks(before.as_str());
+    let (head, blanks) = split_words(before.as_str(), before.len());
     if head.is_empty() {
         return Ok(None);
     }
@@ -70,15 +71,12 @@ pub fn with_swapped_words(
     ensures { IfOk result (λ changed. changed ≡ with_swapped_words editor.now) }
 {
     let past = past_word(alloc, editor)?;
-    let (head, rest) = past.get_line().split_at(past.get_cursor());
-    let (words, blanks) = split_blanks(head);
+    let (words, rest) = split_words(past.get_line(), past.get_cursor());
     match swapped_words(alloc, words)? {
-        Some(words) => {
-            let mut behind = String::from_str(alloc, blanks)?;
-            behind.push_str(rest)?;
-            let mut line = LineEditBuffer::new(alloc, behind.as_str(), 0)?;
-            line.insert_text(words.as_str())?;
-            Ok(line)
+        Some(mut line) => {
+            let cursor = line.as_str().len();
+            line.push_str(rest)?;
+            LineEditBuffer::new(alloc, line.as_str(), cursor)
         }
         None => editor.try_clone(alloc),
     }

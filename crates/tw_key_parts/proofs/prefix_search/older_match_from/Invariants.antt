@@ -1,8 +1,8 @@
--- No line above the index, up to the first one, begins as the line does.
-use Rattle.std.proofs.Common.{◌+◌}
-use Rattle.tw_line.specs.Extremes.{NonePasses}
-use Rattle.tw_key_parts.specs.PrefixSearch.{is_prefix_match}
+-- The newest match up to the first index is that up to this one.
+use Rattle.std.proofs.Common.{◌≡◌}
+use Rattle.tw_key_parts.specs.PrefixSearch.{older_match}
 use Rattle.tw_key_parts.proofs.prefix_search.older_match_from.Given as goal
 
 abbrev pub invariant-loop-index : goal.invariant-loop-index
-invariant-loop-index g l = NonePasses (is_prefix_match (g.L.History.lines l.lines) l.editor) (l.index + 1) (l.from + 1)
+invariant-loop-index g l =
+    let lines = g.L.History.lines l.lines in older_match lines l.editor l.from ≡ older_match lines l.editor l.index

@@ -1,6 +1,6 @@
 use Rattle.std.proofs.Common.{Some, None, arith}
 use Rattle.std.proofs.lemmas.Str.Pattern.{find_char}
-use Rattle.tw_key_parts.proofs.RowLemmas.{below-feed, end-found, end-missing}
+use Rattle.tw_key_parts.proofs.RowLemmas.{end-found, end-missing}
 use Rattle.tw_key_parts.proofs.row_keys.row_end.Goals as goal
 
 pub returns-in-Some-clause-value : goal.returns-in-Some-clause-value
@@ -8,12 +8,6 @@ returns-in-Some-clause-value c =
     let text = c.range_from.result.now in
     let (low, there, none) = find_char 10 text (Some c.in-Some.feed) c.in-Some.ensures.cases (omega arith) in
     end-found c.args.line.now text c.args.at c.requires.0 c.range_from.ensures.value c.in-Some.feed low there none
-
-pub returns-in-Some-clause-below : goal.returns-in-Some-clause-below
-returns-in-Some-clause-below c =
-    let text = c.range_from.result.now in
-    let (low, there, none) = find_char 10 text (Some c.in-Some.feed) c.in-Some.ensures.cases (omega arith) in
-    λ inside. below-feed c.args.line.now text c.args.at c.requires.0 c.range_from.ensures.value c.utf8.line c.in-Some.feed low there
 
 pub returns-in-None-clause-value : goal.returns-in-None-clause-value
 returns-in-None-clause-value c =

@@ -1,8 +1,7 @@
-use Rattle.std.proofs.Common.{◌≡◌, ◌+◌, ◌-◌, Some, None, arith, subst}
-use Rattle.std.specs.Str.{IsCharBoundary}
+use Rattle.std.proofs.Common.{Some, None, arith}
 use Rattle.std.proofs.lemmas.Str.{IsCharBoundary-start}
 use Rattle.std.proofs.lemmas.Str.Pattern.{rfind_char}
-use Rattle.tw_key_parts.proofs.RowLemmas.{above-feed, start-found, start-missing}
+use Rattle.tw_key_parts.proofs.RowLemmas.{start-found, start-missing}
 use Rattle.tw_key_parts.proofs.row_keys.row_start.Goals as goal
 
 pub returns-in-Some-clause-value : goal.returns-in-Some-clause-value
@@ -11,14 +10,6 @@ returns-in-Some-clause-value c =
     let text = c.split_at.result.0.now in
     let (low, there, none) = rfind_char 10 text (Some c.in-Some.feed) c.in-Some.ensures.cases (omega arith) in
     start-found line text c.args.at c.requires.0 c.split_at.ensures.front c.in-Some.feed low there none
-
-pub returns-in-Some-clause-above : goal.returns-in-Some-clause-above
-returns-in-Some-clause-above c =
-    let line = c.args.line.now in
-    let text = c.split_at.result.0.now in
-    let (low, there, none) = rfind_char 10 text (Some c.in-Some.feed) c.in-Some.ensures.cases (omega arith) in
-    let boundary = above-feed line text c.args.at c.requires.0 c.split_at.ensures.front c.in-Some.feed low there in
-    λ some. subst (IsCharBoundary line) (let same : c.in-Some.feed ≡ c.in-Some.feed + 1 - 1 = omega arith in same) boundary
 
 pub returns-in-None-clause-value : goal.returns-in-None-clause-value
 returns-in-None-clause-value c =

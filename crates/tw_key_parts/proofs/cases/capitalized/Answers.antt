@@ -1,5 +1,5 @@
 use Rattle.std.proofs.lemmas.Str.{IsCharBoundary-start}
-use Rattle.tw_key_parts.proofs.cases.first_cluster_len.Goals as goal
+use Rattle.tw_key_parts.proofs.cases.capitalized.Goals as goal
 
 pub new-requires : goal.new-requires
 new-requires c = IsCharBoundary-start c.args.text.now c.utf8.text
