@@ -1,5 +1,4 @@
 pub mod NestingLemmas
-pub mod StackLemmas
 pub mod WholeLemmas
 pub mod AfterLineLemmas
 pub mod FailingLemmas

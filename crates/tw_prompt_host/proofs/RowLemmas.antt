@@ -1,9 +1,8 @@
 -- Texts and elements in rows.
-use Rattle.std.proofs.Common.{◌≡◌, ◌≢◌, ℕ, zero, suc, ◌+◌, ◌<◌, ◌≤◌, ◌%◌, ◌-◌, ◌&&◌, ◌||◌, eqb, ltb, Bool, true, false, not, List, [], ◌∷◌, ◌++◌, length, take, drop, get_or, Option, Some, None, refl, ap, sym, ◌∙◌, inl, inr, ◌⊎◌, arith, append_assoc, append-nil, length-append, subst, take-append-drop}
+use Rattle.std.proofs.Common.{◌≡◌, ◌≢◌, ℕ, zero, suc, ◌+◌, ◌<◌, ◌≤◌, ◌||◌, eqb, Bool, true, false, not, List, [], ◌∷◌, ◌++◌, length, take, drop, get_or, Option, Some, None, refl, ap, sym, ◌∙◌, arith, append_assoc, append-nil, length-append, subst, take-append-drop}
 use Rattle.std.specs.List.{list_all}
-use Rattle.std.proofs.Math.Nat.{add-mod, add-mod_left, mod-eq_of_lt, mod-lt, mod_self}
 use Rattle.std.proofs.Math.Bool.{or-false}
-use Rattle.std.proofs.lemmas.Bool.{and_from, and_parts, cases_eq, cases_lt, eq-eqb, lt-ltb, ne_eqb, true≢false}
+use Rattle.std.proofs.lemmas.Bool.{and_from, and_parts, eq-eqb, ne_eqb, true≢false}
 use Rattle.std.proofs.lemmas.List.{length-take-le, take_all}
 use Rattle.std.proofs.lemmas.List.Folds.{list_all-append}
 use Rattle.std.proofs.lemmas.Str.Pattern.{NoCharPasses-char}
@@ -31,6 +30,10 @@ first-other b text none = ne_eqb b lf (none 0 (omega arith))
 rest-none : (b : ℕ) (text : List ℕ) → HasNoFeed (b ∷ text) → HasNoFeed text
 rest-none b text none i inside = none (suc i) (omega (arith, inside))
 
+-- as a search for line feeds finds it
+no-feed-in : (text : List ℕ) → NoCharPasses (λ d. eqb d lf) text → HasNoFeed text
+no-feed-in text none i inside = NoCharPasses-char lf text i none (omega arith) inside
+
 -- a row with more, and more after that
 with-more : (row : RowView) (a b : List ℕ) → row_with (row_with row a) b ≡ row_with row (a ++ b)
 with-more row a b = ap (λ text. record row { text = text }) (append_assoc row.text a b)
@@ -57,14 +60,18 @@ behind-feed row (b ∷ front) more = by (λ r. behind-feed r front more) (eqb b 
 pub behind-step : (row : RowView) (rest piece more : List ℕ) (all : RowView) → rest ≡ piece ++ (lf ∷ more) → row_behind row rest ≡ all → row_behind next_row more ≡ all
 behind-step row rest piece more all e so = sym (behind-feed row piece more) ∙ ap (row_behind row) (sym e) ∙ so
 
-pub behind-last : (row : RowView) (rest : List ℕ) (all : RowView) → HasNoFeed rest → row_behind row rest ≡ all → row_with row rest ≡ all
-behind-last row rest all none so = sym (behind-piece row rest none) ∙ so
+-- and behind the last piece
+pub behind_last : (row : RowView) (rest : List ℕ) → NoCharPasses (λ d. eqb d lf) rest → row_behind row rest ≡ row_with row rest
+behind_last row rest none = behind-piece row rest (no-feed-in rest none)
 
--- the last row of a line with a line feed, which stands before `j`, and of one without
+-- what is shown after one more piece and a break, and what is left then
+pub shown-step : {X : Type 0} (shown piece between left rest new all : List X) → rest ≡ piece ++ (between ++ left)
+    → new ≡ (shown ++ piece) ++ between → shown ++ rest ≡ all → new ++ left ≡ all
+shown-step shown piece between left rest new all is is_new so =
+    rw is_new (append_assoc (shown ++ piece) between left ∙ append_assoc shown piece (between ++ left) ∙ ap (λ xs. shown ++ xs) (sym is) ∙ so)
+
+-- the last row of a line with a line feed, which stands before `j`
 module _ (screen : PromptScreenView) (continuation line : List ℕ) where
-  no-feed-in : (text : List ℕ) → NoCharPasses (λ d. eqb d lf) text → HasNoFeed text
-  no-feed-in text none i inside = NoCharPasses-char lf text i none (omega arith) inside
-
   pub last-behind : (row : List ℕ) (i j : ℕ) → drop i line ≡ lf ∷ drop j line → NoCharPasses (λ d. eqb d lf) (drop j line) → row ≡ drop j line
       → last_shown screen (Some continuation) line ≡ (continuation, row)
   last-behind row i j at none back =
@@ -74,9 +81,6 @@ module _ (screen : PromptScreenView) (continuation line : List ℕ) where
       ap (row_behind empty_first_row) whole ∙ behind-feed empty_first_row (take i line) row
       ∙ behind-piece next_row row (no-feed-in row (subst (NoCharPasses (λ d. eqb d lf)) (sym back) none)) in
       ap (λ (shown : RowView). (before_row screen continuation shown.is_first, shown.text)) last
-
-  pub last-whole : NoCharPasses (λ d. eqb d lf) line → last_shown screen (Some continuation) line ≡ (screen.prompt, line)
-  last-whole none = ap (λ (shown : RowView). (before_row screen continuation shown.is_first, shown.text)) (behind-piece empty_first_row line (no-feed-in line none))
 
 -- the rows of a piece, and of a piece before a line feed
 pub rows-piece : (piece : List ℕ) → HasNoFeed piece → rows_of_text piece ≡ piece ∷ []
@@ -97,19 +101,6 @@ some-rows (b ∷ text) = by (some-rows text) (eqb b lf) refl
     by it false e = rw e (b ∷ it.0, it.1, ap (before_rows b) it.2)
 
 module _ (screen : PromptScreenView) (continuation : List ℕ) where
-  -- a piece in a row, and a piece before a line feed
-  pub spread-piece : (row : RowView) (piece : List ℕ) → HasNoFeed piece → spread_from screen continuation row piece ≡ piece
-  spread-piece row [] none = refl
-  spread-piece row (b ∷ piece) none =
-      rw (first-other b piece none) (ap (λ text. b ∷ text) (spread-piece (row_with row (b ∷ [])) piece (rest-none b piece none)))
-
-  pub spread-feed : (row : RowView) (piece more : List ℕ) → HasNoFeed piece
-      → spread_from screen continuation row (piece ++ (lf ∷ more)) ≡ piece ++ (row_break screen continuation (row_with row piece) ++ spread_from screen continuation next_row more)
-  spread-feed row [] more none = ap (λ r. row_break screen continuation r ++ spread_from screen continuation next_row more) (sym (with-none row))
-  spread-feed row (b ∷ piece) more none =
-      rw (first-other b piece none) (ap (λ text. b ∷ text) (spread-feed (row_with row (b ∷ [])) piece more (rest-none b piece none)
-      ∙ ap (λ r. piece ++ (row_break screen continuation r ++ spread_from screen continuation next_row more)) (with-more row (b ∷ []) piece)))
-
   -- two texts, one after the other
   pub spread-append : (row : RowView) (a b : List ℕ) → spread_from screen continuation row (a ++ b) ≡ spread_from screen continuation row a ++ spread_from screen continuation (row_behind row a) b
   spread-append row [] b = refl
@@ -133,35 +124,6 @@ module _ (screen : PromptScreenView) (continuation : List ℕ) where
       let it = some-rows more in
       ap (elements_of_rows screen continuation set row) (rows-feed piece more none ∙ ap (λ (rows : List (List ℕ)). piece ∷ rows) it.2)
       ∙ ap (λ rows. Text piece ∷ (break_elements screen continuation set (row_with row piece) ++ elements_of_rows screen continuation set next_row rows)) (sym it.2)
-
-  -- ---- the steps of a loop over the pieces of a text
-
-  pub spread-step : (row : RowView) (rest piece more shown between new all : List ℕ) → rest ≡ piece ++ (lf ∷ more) → HasNoFeed piece
-      → between ≡ row_break screen continuation (row_with row piece) → new ≡ (shown ++ piece) ++ between
-      → shown ++ spread_from screen continuation row rest ≡ all → new ++ spread_from screen continuation next_row more ≡ all
-  spread-step row rest piece more shown between new all e none is_break is_new so =
-      rw (is_new, is_break, append_assoc (shown ++ piece) (row_break screen continuation (row_with row piece)) (spread_from screen continuation next_row more)) (
-      append_assoc shown piece _ ∙ ap (λ text. shown ++ text) (sym (spread-feed row piece more none))
-      ∙ ap (λ text. shown ++ spread_from screen continuation row text) (sym e) ∙ so)
-
-  pub spread-last : (row : RowView) (rest shown new all : List ℕ) → HasNoFeed rest → new ≡ shown ++ rest
-      → shown ++ spread_from screen continuation row rest ≡ all → new ≡ all
-  spread-last row rest shown new all none is_new so = is_new ∙ ap (λ text. shown ++ text) (sym (spread-piece row rest none)) ∙ so
-
-  pub elements-step : (set : Option CellAttributes) (row : RowView) (rest piece more : List ℕ) (shown between new all : List ElementView)
-      → rest ≡ piece ++ (lf ∷ more) → HasNoFeed piece
-      → between ≡ break_elements screen continuation set (row_with row piece) → new ≡ (shown ++ Text piece ∷ []) ++ between
-      → shown ++ elements_of_rows screen continuation set row (rows_of_text rest) ≡ all
-      → new ++ elements_of_rows screen continuation set next_row (rows_of_text more) ≡ all
-  elements-step set row rest piece more shown between new all e none is_break is_new so =
-      let left = elements_of_rows screen continuation set next_row (rows_of_text more) in
-      rw (is_new, is_break, append_assoc (shown ++ Text piece ∷ []) (break_elements screen continuation set (row_with row piece)) left) (
-      append_assoc shown (Text piece ∷ []) _ ∙ ap (λ es. shown ++ es) (sym (elements-feed set row piece more none))
-      ∙ ap (λ text. shown ++ elements_of_rows screen continuation set row (rows_of_text text)) (sym e) ∙ so)
-
-  pub elements-last : (set : Option CellAttributes) (row : RowView) (rest : List ℕ) (shown new all : List ElementView) → HasNoFeed rest → new ≡ shown ++ Text rest ∷ []
-      → shown ++ elements_of_rows screen continuation set row (rows_of_text rest) ≡ all → new ≡ all
-  elements-last set row rest shown new all none is_new so = is_new ∙ ap (λ es. shown ++ es) (sym (elements-piece set row rest none)) ∙ so
 
   -- ---- the text of elements
 
@@ -198,6 +160,24 @@ module _ (screen : PromptScreenView) (continuation : List ℕ) where
       by it so false e =
           rw (e, it.2, one-before set row b it.0 it.1)
           (ap (λ rows. b ∷ text_of_elements (elements_of_rows screen continuation set (row_with row (b ∷ [])) rows)) (sym it.2) ∙ ap (λ text. b ∷ text) (so (row_with row (b ∷ []))))
+
+  -- the text of a piece in a row, and of a piece before a line feed
+  pub spread-piece : (row : RowView) (piece : List ℕ) → HasNoFeed piece → spread_from screen continuation row piece ≡ piece
+  spread-piece row piece none = sym (text-of-rows None row piece) ∙ ap text_of_elements (elements-piece None row piece none) ∙ append-nil piece
+
+  pub spread-feed : (row : RowView) (piece more : List ℕ) → HasNoFeed piece
+      → spread_from screen continuation row (piece ++ (lf ∷ more)) ≡ piece ++ (row_break screen continuation (row_with row piece) ++ spread_from screen continuation next_row more)
+  spread-feed row piece more none =
+      sym (text-of-rows None row (piece ++ (lf ∷ more))) ∙ ap text_of_elements (elements-feed None row piece more none)
+      ∙ ap (λ rest. piece ++ (row_break screen continuation (row_with row piece) ++ rest)) (text-of-rows None next_row more)
+
+  -- what the last piece shows
+  pub spread_last : (row : RowView) (rest : List ℕ) → NoCharPasses (λ d. eqb d lf) rest → spread_from screen continuation row rest ≡ rest
+  spread_last row rest none = spread-piece row rest (no-feed-in rest none)
+
+  pub elements_last : (set : Option CellAttributes) (row : RowView) (rest : List ℕ) → NoCharPasses (λ d. eqb d lf) rest
+      → elements_of_rows screen continuation set row (rows_of_text rest) ≡ Text rest ∷ []
+  elements_last set row rest none = elements-piece set row rest (no-feed-in rest none)
 
   -- ---- one row
 
@@ -316,38 +296,3 @@ printable_is_shown screen continuation cut shown prompts line faithful =
       elements_are_spread screen continuation None empty_first_row shown.elements ∙ ap (spread_from screen continuation empty_first_row) faithful ∙ printable_is_spread screen continuation cut.line prompts line,
       ap (column_on screen) (printable_cut_is_shown screen continuation (take cut.cursor cut.line) (drop cut.cursor cut.line) prompts both.0 both.1),
     )
-
--- ---- whether a row is full
-
--- two rests that fill a divisor, or nothing
-fills : (cols r s : ℕ) → r < cols → s < cols → eqb r ((cols - s) % cols) ≡ eqb ((r + s) % cols) 0
-fills cols r zero low small =
-    let none : r + 0 ≡ r = omega arith in
-    let whole : (cols - 0) % cols ≡ 0 = ap (λ n. n % cols) (let e : cols - 0 ≡ cols = omega arith in e) ∙ mod_self cols in
-    ap (eqb r) whole ∙ ap (λ n. eqb n 0) (sym (mod-eq_of_lt low) ∙ ap (λ n. n % cols) (sym none))
-fills cols r (suc s) low small = elim (cases_lt (r + suc s) cols) [
-  | inl less ↦
-      ap (eqb r) left ∙ ne_eqb r (cols - suc s) (λ e. absurd (omega (arith, e, less, small)))
-      ∙ sym (ne_eqb ((r + suc s) % cols) 0 (λ e. absurd (omega (arith, e, mod-eq_of_lt less))))
-  | inr more ↦ by_equal more (cases_eq (r + suc s) cols)
-]
-  where
-    left : (cols - suc s) % cols ≡ cols - suc s
-    left = mod-eq_of_lt (omega (arith, small))
-
-    by_equal : cols ≤ r + suc s → (r + suc s ≡ cols) ⊎ (r + suc s ≢ cols) → eqb r ((cols - suc s) % cols) ≡ eqb ((r + suc s) % cols) 0
-    by_equal more (inl same) =
-        ap (eqb r) left ∙ eq-eqb r (cols - suc s) (omega (arith, same, small)) ∙ sym (eq-eqb ((r + suc s) % cols) 0 (ap (λ n. n % cols) same ∙ mod_self cols))
-    by_equal more (inr other) =
-        let over : r + suc s ≡ cols + (r + suc s - cols) = omega (arith, more) in
-        let rest : (r + suc s) % cols ≡ r + suc s - cols = ap (λ n. n % cols) over ∙ add-mod_left cols (r + suc s - cols) ∙ mod-eq_of_lt (omega (arith, low, small)) in
-        ap (eqb r) left ∙ ne_eqb r (cols - suc s) (λ e. absurd (omega (arith, e, other, small)))
-        ∙ sym (ne_eqb ((r + suc s) % cols) 0 (λ e. absurd (omega (arith, e, rest, more, other))))
-
--- columns after others fill the last column
-pub is_filled : (cols start column : ℕ) → 0 < cols → 0 < start + column
-    → eqb (start % cols) ((cols - column % cols) % cols) ≡ (ltb 0 (start + column) && eqb ((start + column) % cols) 0)
-is_filled cols start column some any =
-    fills cols (start % cols) (column % cols) (mod-lt start some) (mod-lt column some)
-    ∙ ap (λ n. eqb n 0) (sym (add-mod start column cols))
-    ∙ ap (λ b. b && eqb ((start + column) % cols) 0) (sym (lt-ltb 0 (start + column) any))

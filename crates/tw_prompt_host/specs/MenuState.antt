@@ -28,17 +28,11 @@ pub data MenuView : Type 0 where
 abbrev pub back_key : KeyEvent
 back_key = key_press shift Tab
 
--- the candidate after the chosen one, and after the last one the first
-abbrev pub chosen_next : Shown → ℕ
-chosen_next m = (m.chosen + 1) % length m.candidates
-
--- the candidate before it, and before the first one the last
-abbrev pub chosen_previous : Shown → ℕ
-chosen_previous m = if m.chosen == 0 then length m.candidates - 1 else m.chosen - 1
-
--- one step on or back
+-- one step on, from the last candidate to the first, or back, from the first one to the last
 abbrev pub stepped : Bool → Shown → Shown
-stepped back m = record m { chosen = if back then chosen_previous m else chosen_next m }
+stepped back m =
+    let previous = if m.chosen == 0 then length m.candidates - 1 else m.chosen - 1 in
+    record m { chosen = if back then previous else (m.chosen + 1) % length m.candidates }
 
 -- so a menu, if it is open
 abbrev pub menu_stepped : Bool → MenuView → MenuView

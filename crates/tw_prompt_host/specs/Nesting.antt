@@ -44,7 +44,7 @@ module _ (pairs : List MarkPair) where
   -- what a character does that does not close the last open mark: in a quotation only the escape character is a mark
   abbrev pub after_text : MarkKind → List OpenMark → ℕ → ℕ → Option (List OpenMark)
   after_text Brackets opens at c = opens_behind opens at c
-  after_text (Quotation escape) opens at c = if escapes escape c then Some (opens ++ record { pair = escape_pair c; at = at } ∷ []) else Some opens
+  after_text (Quotation escape) opens at c = behind_opening opens at (if escapes escape c then Some (escape_pair c) else None) false
   after_text Escape opens at c = Some opens
 
   -- a character closes the last open mark, or is text behind it

@@ -16,23 +16,15 @@ use Rattle.tw_prompt_host.specs.declared.prepared.StyledRange.{StyledRange}
 abbrev pub bytes_before : ℕ → ℕ → List ℕ → ℕ
 bytes_before total place rest = boundary_below rest (place - (total - length rest))
 
--- what is left from the start of a range on, and behind it
-abbrev pub from_range : ℕ → StyledRange → List ℕ → List ℕ
-from_range total range rest = drop (bytes_before total range.start rest) rest
-
-abbrev pub behind_range : ℕ → StyledRange → List ℕ → List ℕ
-behind_range total range rest = let inside = from_range total range rest in drop (bytes_before total range.end inside) inside
-
--- what stands before a range, plain, and what stands in it, in its attributes
-abbrev pub shown_range : ℕ → StyledRange → List ℕ → List ElementView
-shown_range total range rest =
-    let inside = from_range total range rest in
-    Text (take (bytes_before total range.start rest) rest) ∷ styled_text range.attributes (take (bytes_before total range.end inside) inside)
-
--- the ranges one after the other, each in what the ranges before it leave, and the rest of the line, plain
-unfoldable pub styled_from : ℕ → List StyledRange → List ℕ → List ElementView
+-- the ranges one after the other, each in what the ranges before it leave: what stands before a range, plain, and what
+-- stands in it, in its attributes; and the rest of the line, plain
+abbrev pub styled_from : ℕ → List StyledRange → List ℕ → List ElementView
 styled_from total [] rest = Text rest ∷ []
-styled_from total (range ∷ ranges) rest = shown_range total range rest ++ styled_from total ranges (behind_range total range rest)
+styled_from total (range ∷ ranges) rest =
+    let start = bytes_before total range.start rest in
+    let inside = drop start rest in
+    let end = bytes_before total range.end inside in
+    Text (take start rest) ∷ (styled_text range.attributes (take end inside) ++ styled_from total ranges (drop end inside))
 
 -- a line with ranges in their attributes
 abbrev pub styled_ranges : List StyledRange → List ℕ → List ElementView

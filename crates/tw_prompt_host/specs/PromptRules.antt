@@ -94,26 +94,28 @@ module _ {V S K : Type 0} (keys : KeyRules S K) (rules : HostRules V) where
   abbrev pub hint_under : Prompted V S → List ℕ → Option (List ℕ)
   hint_under v line = hint_if_under v.hints (hint_of v.lent line)
 
-  -- a hint may stand after the line: at its end, if it is not over and was not kept, while no menu is open
-  abbrev pub is_hinted : Prompted V S → Cut → Bool
-  is_hinted v cut = (not v.going.over && not v.going.kept) && (not (is_menu_open v.going.menu) && (cut.cursor == length cut.line))
-
-  -- what stands after the line: in a search that it fails, and else the hint
+  -- what stands after the line: in a search that it fails, and else the hint, at the end of a line that is not over and
+  -- was not kept, while no menu is open
   abbrev pub after_line : Prompted V S → Cut → List ElementView
   after_line v cut =
       if v.going.searching
       then if v.going.fails then after_line_on v.screen v.rows cut.line default_attributes (codes "  failing: no line has it") else []
-      else if is_hinted v cut then hint_if_after v.hints v.screen v.rows cut.line (hint_of v.lent cut.line) else []
+      else if (not v.going.over && not v.going.kept) && (not (is_menu_open v.going.menu) && (cut.cursor == length cut.line))
+      then hint_if_after v.hints v.screen v.rows cut.line (hint_of v.lent cut.line)
+      else []
 
   -- the candidates, but for the menu: what completers offer, or else the host's
   abbrev pub found : Prompted V S → Cut → List CandidateView
   found v cut = beginning_first (unwrap_or (context_candidates v.completers v.listings cut) (rules.candidates v.host cut))
 
-  -- where an event turns the menu; a completion begins with the candidates
+  -- the menu with which an action begins a completion, of the candidates
+  abbrev pub begun_at : Prompted V S → Option ActionView → Cut → Option MenuView
+  begun_at v action cut =
+      option_map (λ candidates. menu_begun candidates cut) (if asks v.going.searching v.going.menu action then Some (found v cut) else None)
+
+  -- where an event turns the menu
   abbrev pub turn_at : Prompted V S → EventView → Cut → Option MenuView
-  turn_at v event cut =
-      let known = if asks v.going.searching v.going.menu (action_of event) then Some (found v cut) else None in
-      turned (option_map (λ candidates. menu_begun candidates cut) known) event (action_of event) v.going.menu
+  turn_at v event cut = turned (begun_at v (action_of event) cut) event (action_of event) v.going.menu
 
   -- the edit that an event has without the menu: a search is left, a hint is taken, or that of the parts
   abbrev pub edit_at : Prompted V S → EventView → Cut → Option (Edited (Option K))
@@ -135,28 +137,25 @@ module _ {V S K : Type 0} (keys : KeyRules S K) (rules : HostRules V) where
   abbrev pub fails_by_key : Prompted V S → EventView → Cut → Bool
   fails_by_key v event cut = v.stops_failing_searches && fails_after v.lines v.going.searching (action_of event) cut
 
-  -- all follow what came of an event in the end
-  abbrev pub followed : Prompted V S → V → Option K → Came → Option ActionView → Resolution (Prompted V S)
-  followed v value kept came action = record {
-    value = record v {
-      host = value;
-      keys = keys.follows v.keys kept (step_of came.event v.going.searching came.before came.after came.action);
-      style = style_after came.event v.style;
-      screen = screen_after came.event v.screen;
-      going = going_after (has_lines v.lines) came v.going;
-    };
-    cut = came.after;
-    action = action;
-  }
-
-  -- an answer is done, or held back; `fails` is whether a search would fail by the key table, and then or where accepting
-  -- is held back the prompt says that it fails
+  -- an answer is done, or held back, and all follow what came of the event in the end; `fails` is whether a search would
+  -- fail by the key table, and then or where accepting is held back the prompt says that it fails
   abbrev pub judged : Prompted V S → EventView → Cut → V → Answer K → Option MenuView → Bool → Bool → Resolution (Prompted V S)
   judged v event cut value answer turn back fails =
       let action = said back (opens_row v) answer.action in
+      let done = or_default action event in
       let held = back && not (opens_row v) in
-      followed v value answer.kept
-      (record { event = event; before = cut; after = answer.cut; action = or_default action event; back = held; fails = held || (is_none action && fails); turn = turn }) action
+      let came : Came = record { event = event; before = cut; after = answer.cut; action = done; back = held; fails = held || (is_none action && fails); turn = turn } in
+      record {
+        value = record v {
+          host = value;
+          keys = keys.follows v.keys answer.kept (step_of event v.going.searching cut answer.cut done);
+          style = style_after event v.style;
+          screen = screen_after event v.screen;
+          going = going_after (has_lines v.lines) came v.going;
+        };
+        cut = answer.cut;
+        action = action;
+      }
 
   -- what is answered to an event at a line: the host goes first, and then the edit, which a completion is too
   abbrev pub event_answer : Prompted V S → EventView → Cut → Answer K

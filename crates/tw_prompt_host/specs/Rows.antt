@@ -92,10 +92,6 @@ module _ (screen : PromptScreenView) (continuation : List ℕ) where
   abbrev pub row_columns : RowView → ℕ
   row_columns row = column_width (before_row row.is_first) + settled_column screen.cols (before_row row.is_first) (at_end row.text)
 
-  -- whether they fill its last column
-  abbrev pub is_full : RowView → Bool
-  is_full row = ltb 0 (row_columns row) && eqb (row_columns row % screen.cols) 0
-
   -- what stands between a row and the next one
   abbrev pub row_break : RowView → List ℕ
   row_break row = row_edge screen.cols (row_columns row) ++ (cr ∷ lf ∷ continuation)

@@ -16,72 +16,40 @@ use tw_input::InputEvent;
 use tw_key_parts::{Edit, KeyPart};
 use tw_line::LineEditBuffer;
 
-/// Returns true if an action accepts the line.
-fn is_accepting(action: Option<&Action>) -> bool
-    ensures { result ≡ is_accepting (lent_action action.entry) }
-{
-    matches!(action, Some(Action::AcceptLine))
-}
-
-/// Returns the host's action, or else the edit's, whose line replaces the line.
+/// Returns the host's action, or else the edit's, or else the completion of a line, and where the menu turns if there
+/// is neither of the first two. The line of the edit or the completion replaces the editor's.
 pub fn answered<K: KeyPart>(
+    _menu: &Menu,
     own: Option<Action>,
     edit: Option<Edit<Option<K::Note>>>,
+    completed: Option<LineEditBuffer>,
+    turn: Option<Turn>,
     editor: &mut LineEditBuffer,
-) -> (Option<Action>, Option<K::Note>)
-    ensures { let edited = option_map (edit_view (option_map K.kept)) edit in
+) -> (Option<Action>, Option<K::Note>, Option<Turn>)
+    ensures answer { let edited = option_map (edit_view (option_map K.kept)) edit in
         record {
           cut = editor.new;
           action = option_map action_view result.0;
           kept = option_map K.kept result.1;
-        } ≡ answered (option_map action_view own) edited editor.old }
+        } ≡ answered (option_map action_view own) (completing edited completed) editor.old }
+    ensures turn { let view = turn_view (menu_view _menu.now) in
+        let edited = option_map (edit_view (option_map K.kept)) edit in
+        option_map view result.2
+        ≡ turn_unless (option_map action_view own) edited (option_map view turn) }
 {
-    match (own, edit) {
-        (Some(action), _) => (Some(action), None),
-        (None, Some(Edit { line, action, note })) => {
+    match (own, edit, completed) {
+        (Some(action), _, _) => (Some(action), None, None),
+        (None, Some(Edit { line, action, note }), _) => {
             if let Some(line) = line {
                 *editor = line;
             }
-            (Some(action), note)
+            (Some(action), note, None)
         }
-        (None, None) => (None, None),
-    }
-}
-
-/// Returns the edit, or else the completion of a line.
-pub fn completing<K: KeyPart>(
-    edit: Option<Edit<Option<K::Note>>>,
-    line: Option<LineEditBuffer>,
-) -> Option<Edit<Option<K::Note>>>
-    ensures { let kept = option_map K.kept in
-        option_map (edit_view kept) result ≡ completing (option_map (edit_view kept) edit) line }
-{
-    match (edit, line) {
-        (Some(edit), _) => Some(edit),
-        (None, Some(line)) => Some(Edit {
-            line: Some(line),
-            action: Action::Complete,
-            note: None,
-        }),
-        (None, None) => None,
-    }
-}
-
-/// Returns where an event turns the menu, unless it has an action or an edit of its own.
-pub fn turn_unless<K: KeyPart>(
-    _menu: &Menu,
-    own: Option<&Action>,
-    edit: Option<&Edit<Option<K::Note>>>,
-    turn: Option<Turn>,
-) -> Option<Turn>
-    ensures { option_map (turn_view (menu_view _menu.now)) result
-        ≡ turn_unless (lent_action own.entry)
-        (option_map (λ edit. edit_view (option_map K.kept) edit.now) edit.entry)
-        (option_map (turn_view (menu_view _menu.now)) turn) }
-{
-    match (own, edit) {
-        (None, None) => turn,
-        _ => None,
+        (None, None, Some(line)) => {
+            *editor = line;
+            (Some(Action::Complete), None, turn)
+        }
+        (None, None, None) => (None, None, turn),
     }
 }
 
@@ -114,7 +82,10 @@ pub fn judged(
         option_map action_view result.1
         ≡ said (keeps && is_accepting answer) opens own }
 {
-    let accepts = is_accepting(done(event, action.as_ref(), default));
+    let accepts = matches!(
+        done(event, action.as_ref(), default),
+        Some(Action::AcceptLine)
+    );
     match (keeps && accepts, opens) {
         (true, true) => (false, Some(Action::InsertChar(1, '\n'))),
         (true, false) => (true, Some(Action::NoAction)),

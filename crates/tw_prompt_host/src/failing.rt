@@ -2,11 +2,10 @@
 
 ghost use Rattle.std.specs.Prelude.{◌≡◌, IfOk};
 ghost use Rattle.tw_key_parts.specs.EditView.{lent_action};
-ghost use Rattle.tw_prompt_host.specs.FailingSearch.{fails_after, is_failing, pattern_after};
+ghost use Rattle.tw_prompt_host.specs.FailingSearch.{is_failing, pattern_after};
 
 use std::alloc::{AllocError, Global};
 use tw_host::Action;
-use tw_key_parts::{is_filled, searches_after};
 use tw_line::{History, LineEditBuffer, SearchDirection, SearchStyle};
 
 /// What is said after the line of a search that fails.
@@ -31,7 +30,7 @@ pub fn is_failing<L: History>(alloc: Global, history: &L, pattern: &str) -> Resu
 }
 
 /// Returns the pattern of a search after an action that leaves the search on.
-fn pattern_after(
+pub fn pattern_after(
     alloc: Global,
     action: Option<&Action>,
     pattern: &LineEditBuffer,
@@ -47,22 +46,4 @@ fn pattern_after(
         _ => {}
     }
     Ok(after)
-}
-
-/// Returns true if the editor searches, and goes on after an action for a pattern that no line of the history contains.
-pub fn fails_after<L: History>(
-    alloc: Global,
-    history: &L,
-    searching: bool,
-    action: Option<&Action>,
-    pattern: &LineEditBuffer,
-) -> Result<bool, AllocError>
-    ensures { IfOk result (λ fails. fails
-        ≡ fails_after (L.lines history.now) searching (lent_action action.entry) pattern.now) }
-{
-    if !searching || !searches_after(is_filled(history), action, searching) {
-        return Ok(false);
-    }
-    let after = pattern_after(alloc, action, pattern)?;
-    is_failing(alloc, history, after.get_line())
 }

@@ -5,8 +5,8 @@ ghost use Rattle.tw_input.specs.EventView.{event_view};
 ghost use Rattle.tw_key_parts.specs.EditView.{lent_action};
 ghost use Rattle.tw_key_parts.specs.Keys.{is_key};
 ghost use Rattle.tw_key_parts.specs.SearchWatch.{searches_after};
-ghost use Rattle.tw_prompt_host.specs.Going.{going_at_rest, before_search_after, comes_back_after, give_up_key, going_after, going_view, is_last};
-ghost use Rattle.tw_prompt_host.specs.MenuView.{asks, menu_view, turn_view};
+ghost use Rattle.tw_prompt_host.specs.Going.{going_at_rest, before_search_after, comes_back_after, give_up_key, going_after, going_view};
+ghost use Rattle.tw_prompt_host.specs.MenuView.{menu_view, turn_view};
 
 use crate::menu::{Menu, Turn};
 use tw_host::Action;
@@ -46,16 +46,6 @@ pub fn gives_up(event: &InputEvent) -> bool
     is_key(GIVE_UP, event)
 }
 
-/// Returns true for an action that ends the line.
-fn is_last(action: Option<&Action>) -> bool
-    ensures { result ≡ is_last (lent_action action.entry) }
-{
-    matches!(
-        action,
-        Some(Action::AcceptLine | Action::Cancel | Action::EndOfFile)
-    )
-}
-
 impl Going {
     /// Creates the state before a line.
     pub fn new() -> Self
@@ -70,15 +60,6 @@ impl Going {
             over: false,
             menu: Menu::Closed,
         }
-    }
-
-    /// Returns true if an action begins a completion outside a search.
-    pub(crate) fn asks(&self, action: Option<&Action>) -> bool
-        ensures { result ≡ asks self.now.searching (menu_view self.now.menu)
-            (lent_action action.entry) }
-    {
-        let is_still = matches!(self.menu, Menu::Closed | Menu::Few(_));
-        !self.searching && is_still && matches!(action, Some(Action::Complete))
     }
 
     /// Follows a search, which goes on after an event or not.
@@ -129,7 +110,10 @@ impl Going {
     {
         self.menu.follow(turn, &before, after, action);
         self.kept = back || (self.kept && action.is_none());
-        self.over = is_last(action);
+        self.over = matches!(
+            action,
+            Some(Action::AcceptLine | Action::Cancel | Action::EndOfFile)
+        );
         self.fails = fails;
         let searches = searches_after(lines, action, self.searching);
         self.follow_search(event, searches, before);

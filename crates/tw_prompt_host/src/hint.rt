@@ -2,7 +2,7 @@
 
 ghost use Rattle.std.specs.Prelude.{◌≡◌, option_map};
 ghost use Rattle.tw_key_parts.specs.EditView.{lent_action};
-ghost use Rattle.tw_prompt_host.specs.Hint.{are_on, continuation_of, dim_hints, hint_of, is_taking, newest_rest, part_taken, word_of};
+ghost use Rattle.tw_prompt_host.specs.Hint.{continuation_of, dim_hints, hint_of, is_taking, part_taken, word_of};
 
 use tw_host::Action;
 use tw_hosts::split_first_word;
@@ -30,13 +30,6 @@ impl Hints {
         style.intensity = Intensity::Half;
         Hints::After(style)
     }
-
-    /// Returns true if there are hints.
-    pub(crate) fn are_on(self) -> bool
-        ensures { result ≡ are_on self }
-    {
-        !matches!(self, Hints::Off)
-    }
 }
 
 /// Returns the rest of a line that begins with a text, unless it is empty.
@@ -47,11 +40,14 @@ fn continuation_of<'line>(text: &str, line: &'line str) -> Option<&'line str>
     line.strip_prefix(text).filter(|rest| !rest.is_empty())
 }
 
-/// Returns the rest of the newest longer line that begins with a text.
+/// Returns the rest of the newest longer line that begins with a text, or `None` for the empty text.
 #[tactic(auto, using(crate::proofs::HintLemmas::is_newest, crate::proofs::HintLemmas::is_none))]
-fn newest_rest<'a, L: LentLines>(lines: &'a L, text: &str) -> Option<&'a str>
-    ensures { option_map (λ rest. rest.now) result ≡ newest_rest (L.lines lines.now) text.now }
+pub fn history_hint<'a, L: LentLines>(lines: &'a L, text: &str) -> Option<&'a str>
+    ensures { option_map (λ rest. rest.now) result ≡ hint_of (L.lines lines.now) text.now }
 {
+    if text.is_empty() {
+        return None;
+    }
     let mut at = lines.line_count();
     while at > 0 {
         at -= 1;
@@ -60,16 +56,6 @@ fn newest_rest<'a, L: LentLines>(lines: &'a L, text: &str) -> Option<&'a str>
         }
     }
     None
-}
-
-/// Returns the rest of the newest longer line that begins with a text, or `None` for the empty text.
-pub fn history_hint<'a, L: LentLines>(lines: &'a L, text: &str) -> Option<&'a str>
-    ensures { option_map (λ rest. rest.now) result ≡ hint_of (L.lines lines.now) text.now }
-{
-    if text.is_empty() {
-        return None;
-    }
-    newest_rest(lines, text)
 }
 
 /// Returns true for an action that moves forward at the end of the line.

@@ -24,7 +24,6 @@ mod plain;
 mod prepared;
 mod prompt;
 mod rows;
-mod shown;
 mod validator;
 
 pub use going::{Going, gives_up};

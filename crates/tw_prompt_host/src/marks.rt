@@ -1,7 +1,7 @@
 //! The marks of a language.
 
 ghost use Rattle.std.specs.Prelude.{◌≡◌, IfOk};
-ghost use Rattle.tw_prompt_host.specs.Marks.{brackets, closes, common_pairs, escape_pair, is_closing, is_letter_or_space, mark_no_letter, opened_pair, quotation};
+ghost use Rattle.tw_prompt_host.specs.Marks.{closes, common_pairs, is_closing, is_letter_or_space, mark_no_letter, opened_pair};
 
 use std::alloc::{AllocError, Global};
 
@@ -31,6 +31,17 @@ pub struct MarkPair {
 }
 
 impl MarkPair {
+    /// Creates a pair of marks.
+    pub(crate) fn new(opening: char, closing: char, kind: MarkKind) -> Self
+        ensures { result ≡ record { opening = opening; closing = closing; kind = kind } }
+    {
+        MarkPair {
+            opening,
+            closing,
+            kind,
+        }
+    }
+
     /// Returns true if a character closes the pair once it is open.
     pub fn closes(&self, c: char) -> bool
         ensures { result ≡ closes self.now c }
@@ -56,47 +67,15 @@ pub struct OpenMark {
 pub fn common_pairs(alloc: Global) -> Result<Vec<MarkPair>, AllocError>
     ensures { IfOk result (λ pairs. pairs.items ≡ common_pairs) }
 {
+    let quotation = MarkKind::Quotation { escape: Some('\\') };
     let pairs = vec![in alloc;
-        brackets('(', ')'),
-        brackets('[', ']'),
-        brackets('{', '}'),
-        quotation('"'),
-        quotation('\''),
+        MarkPair::new('(', ')', MarkKind::Brackets),
+        MarkPair::new('[', ']', MarkKind::Brackets),
+        MarkPair::new('{', '}', MarkKind::Brackets),
+        MarkPair::new('"', '"', quotation),
+        MarkPair::new('\'', '\'', quotation),
     ]?;
     Ok(pairs)
-}
-
-/// Returns a pair of brackets.
-fn brackets(opening: char, closing: char) -> MarkPair
-    ensures { result ≡ brackets opening closing }
-{
-    MarkPair {
-        opening,
-        closing,
-        kind: MarkKind::Brackets,
-    }
-}
-
-/// Returns a quotation between two marks of one kind, with a backslash as its escape character.
-fn quotation(mark: char) -> MarkPair
-    ensures { result ≡ quotation mark }
-{
-    MarkPair {
-        opening: mark,
-        closing: mark,
-        kind: MarkKind::Quotation { escape: Some('\\') },
-    }
-}
-
-/// Returns the pair that an escape character opens in a quotation.
-pub fn escape_pair(escape: char) -> MarkPair
-    ensures { result ≡ escape_pair escape }
-{
-    MarkPair {
-        opening: escape,
-        closing: escape,
-        kind: MarkKind::Escape,
-    }
 }
 
 /// Returns true if a character is a small letter of ASCII or a space.

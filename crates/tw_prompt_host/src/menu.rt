@@ -1,12 +1,12 @@
 //! The menu of a completion.
 
-ghost use Rattle.std.specs.Prelude.{◌≡◌, None, map, option_map, unwrap_or, IfOk};
+ghost use Rattle.std.specs.Prelude.{◌≡◌, map, option_map, unwrap_or, IfOk};
 ghost use Rattle.tw_host.specs.CandidateView.{candidate_view};
 ghost use Rattle.tw_input.specs.EventView.{event_view};
 ghost use Rattle.tw_key_parts.specs.EditView.{lent_action};
 ghost use Rattle.tw_key_parts.specs.Ring.{is_same_cut};
 ghost use Rattle.tw_prompt_host.specs.MenuView.{chosen_of, is_menu_open, menu_view, turn_line, turn_view};
-ghost use Rattle.tw_prompt_host.specs.MenuState.{menu_after, menu_begun, menu_stepped, chosen_next, chosen_previous, stepped, turned};
+ghost use Rattle.tw_prompt_host.specs.MenuState.{menu_after, menu_begun, menu_stepped, stepped, turned};
 
 use std::alloc::{AllocError, Global};
 use std::marker::Model;
@@ -43,24 +43,6 @@ impl Model for OpenMenu {
 }
 
 impl OpenMenu {
-    /// Returns the candidate after the chosen one, and after the last one the first.
-    fn next(&self) -> usize
-        ensures { result ≡ chosen_next self.now }
-    {
-        (self.chosen + 1) % self.candidates.len()
-    }
-
-    /// Returns the candidate before the chosen one, and before the first one the last.
-    fn previous(&self) -> usize
-        ensures { result ≡ chosen_previous self.now }
-    {
-        if self.chosen == 0 {
-            self.candidates.len() - 1
-        } else {
-            self.chosen - 1
-        }
-    }
-
     /// Returns a copy of the chosen candidate, by itself.
     #[tactic(auto, using(crate::proofs::MenuLemmas::part_seen))]
     pub fn chosen_one(&self, alloc: Global) -> Result<Vec<CompletionCandidate>, AllocError>
@@ -69,11 +51,18 @@ impl OpenMenu {
         copy_candidates(alloc, &self.candidates[self.chosen..self.chosen + 1])
     }
 
-    /// Chooses the next candidate, or goes back to the one before.
+    /// Chooses the next candidate, or goes back to the one before. The first one comes after the last.
     fn step(&mut self, back: bool)
         ensures { self.new ≡ stepped back self.old }
     {
-        self.chosen = if back { self.previous() } else { self.next() };
+        let count = self.candidates.len();
+        self.chosen = if !back {
+            (self.chosen + 1) % count
+        } else if self.chosen == 0 {
+            count - 1
+        } else {
+            self.chosen - 1
+        };
     }
 }
 
@@ -124,13 +113,19 @@ impl Menu {
         }
     }
 
-    /// Returns where an event leads an open menu.
-    pub fn turn(&self, event: &InputEvent, action: Option<&Action>) -> Option<Turn>
+    /// Returns where an event leads a menu: an open one goes on or back, or else the one begins that is given.
+    pub fn turn(
+        &self,
+        event: &InputEvent,
+        action: Option<&Action>,
+        begun: Option<Menu>,
+    ) -> Option<Turn>
         ensures { option_map (turn_view (menu_view self.now)) result
-            ≡ turned None (event_view event.now) (lent_action action.entry) (menu_view self.now) }
+            ≡ turned (option_map menu_view begun) (event_view event.now)
+            (lent_action action.entry) (menu_view self.now) }
     {
         if !self.is_open() {
-            return None;
+            return begun.map(|menu| Turn::Begins(menu));
         }
         if is_key(BACK, event) {
             return Some(Turn::Back);
@@ -166,23 +161,6 @@ impl Menu {
         }
     }
 
-    /// Follows the action of an event that does not turn the menu.
-    fn go_on(&mut self, before: &LineEditBuffer, after: &LineEditBuffer, action: Option<&Action>)
-        ensures { menu_view self.new
-            ≡ menu_after (is_same_cut before.now after.now) (lent_action action.entry)
-            (menu_view self.old) }
-    {
-        match action {
-            Some(Action::Complete) => *self = Menu::Unseen,
-            Some(Action::NoAction | Action::Repaint) | None => {
-                if self.is_open() && !is_same_cut(before, after) {
-                    *self = Menu::Closed;
-                }
-            }
-            Some(_) => *self = Menu::Closed,
-        }
-    }
-
     /// Follows an event, which turns the menu or has an action that leads from one line to another.
     pub fn follow(
         &mut self,
@@ -196,11 +174,17 @@ impl Menu {
             (menu_after (is_same_cut before.now after.now) (lent_action action.entry)
             (menu_view self.old)) }
     {
-        match turn {
-            Some(Turn::Next) => self.step(false),
-            Some(Turn::Back) => self.step(true),
-            Some(Turn::Begins(menu)) => *self = menu,
-            None => self.go_on(before, after, action),
+        match (turn, action) {
+            (Some(Turn::Next), _) => self.step(false),
+            (Some(Turn::Back), _) => self.step(true),
+            (Some(Turn::Begins(menu)), _) => *self = menu,
+            (None, Some(Action::Complete)) => *self = Menu::Unseen,
+            (None, Some(Action::NoAction | Action::Repaint) | None) => {
+                if self.is_open() && !is_same_cut(before, after) {
+                    *self = Menu::Closed;
+                }
+            }
+            (None, Some(_)) => *self = Menu::Closed,
         }
     }
 }

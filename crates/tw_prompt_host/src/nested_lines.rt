@@ -1,8 +1,7 @@
 //! Lines whose brackets and quotations are whole.
 
-ghost use Rattle.std.specs.Prelude.{◌≡◌, IfOk, option_map, string_bytes};
-ghost use Rattle.tw_prompt_host.specs.Nesting.{nesting_of, nesting_view};
-ghost use Rattle.tw_prompt_host.specs.NestedLines.{lack_of, marked_text};
+ghost use Rattle.tw_prompt_host.specs.Nesting.{nesting_of};
+ghost use Rattle.tw_prompt_host.specs.NestedLines.{lack_of};
 
 use crate::marks::MarkPair;
 use crate::nesting::{Nesting, nesting_in};
@@ -17,33 +16,16 @@ pub struct NestedLines {
     pub pairs: Vec<MarkPair>,
 }
 
-/// Joins a mark and a text.
-fn marked_text(alloc: Global, mark: char, text: &str) -> Result<String, AllocError>
-    ensures { IfOk result (λ said. string_bytes said ≡ marked_text mark text.now) }
-{
-    let mut said = String::new(alloc);
-    said.push(mark)?;
-    said.push_str(text)?;
-    Ok(said)
-}
-
-/// Names the innermost open mark of a line with this nesting, or its first wrong mark.
-fn lack_of(alloc: Global, nesting: Nesting) -> Result<Option<String>, AllocError>
-    ensures { IfOk result (λ text. option_map string_bytes text ≡ lack_of (nesting_view nesting)) }
-{
-    match nesting {
-        Nesting::Open(opens) => match opens.last() {
-            Some(last) => Ok(Some(marked_text(alloc, last.pair.opening, " is open")?)),
-            None => Ok(None),
-        },
-        Nesting::Wrong(mark, _) => Ok(Some(marked_text(alloc, mark, " closes nothing")?)),
-    }
-}
-
 impl Validator for NestedLines {
     ghost lacks = { λ it line. lack_of (nesting_of it.pairs.items line) };
 
     fn lack(&self, alloc: Global, line: &str) -> Result<Option<String>, AllocError> {
-        lack_of(alloc, nesting_in(alloc, self.pairs.as_slice(), line)?)
+        match nesting_in(alloc, self.pairs.as_slice(), line)? {
+            Nesting::Open(opens) => match opens.last() {
+                Some(last) => Ok(Some(format!(in alloc; "{} is open", last.pair.opening)?)),
+                None => Ok(None),
+            },
+            Nesting::Wrong(mark, _) => Ok(Some(format!(in alloc; "{mark} closes nothing")?)),
+        }
     }
 }

@@ -2,11 +2,10 @@
 
 ghost use Rattle.std.specs.Prelude.{◌≡◌, ◌<◌, IfOk};
 ghost use Rattle.tw_prompt_host.specs.Marks.{mark_no_letter};
-ghost use Rattle.tw_prompt_host.specs.Nesting.{after_character, after_text, closed_mark, innermost, nesting_of, nesting_view, opens_behind, where_right};
+ghost use Rattle.tw_prompt_host.specs.Nesting.{after_character, closed_mark, nesting_of, nesting_view, opens_behind, where_right};
 
 use crate::marks::{
-    MarkKind, MarkPair, OpenMark, escape_pair, is_closing, is_letter_or_space, mark_no_letter,
-    opened_pair,
+    MarkKind, MarkPair, OpenMark, is_closing, is_letter_or_space, mark_no_letter, opened_pair,
 };
 use std::alloc::{AllocError, Global};
 
@@ -46,34 +45,6 @@ fn take_opening(
     }
 }
 
-/// Takes in a character that does not close the innermost open mark. Returns false if it is wrong.
-fn take_text(
-    pairs: &[MarkPair],
-    letters: bool,
-    opens: &mut Vec<OpenMark>,
-    kind: MarkKind,
-    at: usize,
-    c: char,
-) -> Result<bool, AllocError>
-    requires { letters ≡ mark_no_letter pairs.now }
-    ensures { IfOk result (λ right. after_text pairs.now kind opens.old.items at c
-        ≡ where_right right opens.new.items) }
-{
-    match kind {
-        MarkKind::Brackets => take_opening(pairs, letters, opens, at, c),
-        MarkKind::Quotation { escape } => {
-            if escape == Some(c) {
-                opens.push(OpenMark {
-                    pair: escape_pair(c),
-                    at,
-                })?;
-            }
-            Ok(true)
-        }
-        MarkKind::Escape => Ok(true),
-    }
-}
-
 /// Takes in one more character. Returns false if it is wrong.
 fn take_in(
     pairs: &[MarkPair],
@@ -93,7 +64,17 @@ fn take_in(
         opens.pop();
         return Ok(true);
     }
-    take_text(pairs, letters, opens, last.pair.kind, at, c)
+    match last.pair.kind {
+        MarkKind::Brackets => take_opening(pairs, letters, opens, at, c),
+        MarkKind::Quotation { escape } => {
+            if escape == Some(c) {
+                let pair = MarkPair::new(c, c, MarkKind::Escape);
+                opens.push(OpenMark { pair, at })?;
+            }
+            Ok(true)
+        }
+        MarkKind::Escape => Ok(true),
+    }
 }
 
 /// Returns the marks that a text leaves open, or its first wrong mark. If two pairs have one opening mark the first of

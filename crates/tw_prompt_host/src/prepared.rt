@@ -1,16 +1,15 @@
 //! A host whose answers an application prepares, between two events.
 
-ghost use Rattle.std.specs.Prelude.{◌≡◌, [], IfOk, drop, if◌then◌else◌, map, take};
+ghost use Rattle.std.specs.Prelude.{◌≡◌, [], IfOk, drop, map, take};
 ghost use Rattle.tw_host.specs.CandidateView.{candidate_view};
 ghost use Rattle.tw_host.specs.ElementView.{element_view};
 ghost use Rattle.tw_host.specs.PlainAnswers.{all_overrides, no_plain_left};
 ghost use Rattle.tw_surface.specs.Defaults.{default_attributes};
-ghost use Rattle.tw_prompt_host.specs.Prepared.{behind_range, bytes_before, shown_range, styled_ranges};
+ghost use Rattle.tw_prompt_host.specs.Prepared.{bytes_before, styled_ranges};
 
 use std::alloc::{AllocError, Global};
 use tw_host::{
     Action, CompletionCandidate, LineEditorHost, OutputElement, Overrides, copy_candidates,
-    plain_element,
 };
 use tw_hosts::styled;
 use tw_input::InputEvent;
@@ -37,24 +36,6 @@ fn split_before(total: usize, place: usize, rest: &str) -> (&str, &str)
     rest.split_at(rest.floor_char_boundary(place.saturating_sub(at)))
 }
 
-/// Shows what is left of a line of `total` bytes, up to the end of a range. Returns what is left then.
-fn show_range<'line>(
-    alloc: Global,
-    total: usize,
-    range: &StyledRange,
-    rest: &'line str,
-) -> Result<(Vec<OutputElement>, &'line str), AllocError>
-    ensures shown { IfOk result (λ it. map element_view it.0.items
-        ≡ shown_range total range.now rest.now) }
-    ensures left { IfOk result (λ it. it.1.now ≡ behind_range total range.now rest.now) }
-{
-    let (before, inside) = split_before(total, range.start, rest);
-    let (within, after) = split_before(total, range.end, inside);
-    let mut shown = plain_element(alloc, before)?;
-    shown.append(&mut styled(alloc, range.attributes, within)?)?;
-    Ok((shown, after))
-}
-
 /// Shows a line with ranges in their attributes. What no range has is plain. Each range is cut to whole characters of
 /// the line that no range before it has, so that the text that is shown is the line whatever the ranges are.
 pub fn styled_ranges(
@@ -67,14 +48,14 @@ pub fn styled_ranges(
 {
     let mut elements = Vec::new(alloc);
     let mut rest = line;
-    let mut left = ranges;
-    while let Some((range, more)) = left.split_first() {
-        let (mut shown, after) = show_range(alloc, line.len(), range, rest)?;
-        elements.append(&mut shown)?;
+    for range in ranges {
+        let (before, inside) = split_before(line.len(), range.start, rest);
+        let (within, after) = split_before(line.len(), range.end, inside);
+        elements.push(OutputElement::Text(String::from_str(alloc, before)?))?;
+        elements.append(&mut styled(alloc, range.attributes, within)?)?;
         rest = after;
-        left = more;
     }
-    elements.append(&mut plain_element(alloc, rest)?)?;
+    elements.push(OutputElement::Text(String::from_str(alloc, rest)?))?;
     Ok(elements)
 }
 

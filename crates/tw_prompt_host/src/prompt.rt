@@ -1,8 +1,9 @@
 //! The prompt, and the order in which its parts answer.
 
-ghost use Rattle.std.specs.Prelude.{◌≡◌, ◌&&◌, IfOk, OnErr, OnOk, IsCharBoundary, None, if◌then◌else◌, map, not, option_map, refl, string_bytes};
+ghost use Rattle.std.specs.Prelude.{◌≡◌, ◌&&◌, IfOk, OnErr, OnOk, IsCharBoundary, None, if◌then◌else◌, map, not, option_map, refl};
 ghost use Rattle.tw_host.specs.ActionView.{action_view};
 ghost use Rattle.tw_host.specs.CandidateView.{candidate_view};
+ghost use Rattle.tw_host.specs.ElementView.{element_view};
 ghost use Rattle.tw_host.specs.HostRules.{or_default};
 ghost use Rattle.tw_host.specs.KeyTable.{action_of};
 ghost use Rattle.tw_host.specs.PlainAnswers.{all_overrides, no_plain_left};
@@ -13,15 +14,15 @@ ghost use Rattle.tw_completion_parts.specs.Completers.{context_completer_view};
 ghost use Rattle.tw_completion_parts.specs.FileNames.{listing_view};
 ghost use Rattle.tw_key_parts.specs.EditView.{edit_view, lent_action};
 ghost use Rattle.tw_prompt_host.specs.Going.{going_at_rest, going_view, event_line};
-ghost use Rattle.tw_prompt_host.specs.Hint.{are_on, hint_taken_by};
 ghost use Rattle.tw_prompt_host.specs.FailingSearch.{fails_after, is_failing};
-ghost use Rattle.tw_prompt_host.specs.MenuView.{menu_view, turn_unless, turn_view};
-ghost use Rattle.tw_prompt_host.specs.PromptRules.{Prompted, after_line, event_answer, answered, completing, edit_at, followed, found, hint_under, is_kept, judged, opens_row, prompt_rules, turn_at, turn_taken_at};
+ghost use Rattle.tw_prompt_host.specs.MenuView.{menu_view, turn_view};
+ghost use Rattle.tw_prompt_host.specs.PromptRules.{Prompted, after_line, begun_at, edit_at, event_answer, found, is_kept, judged, prompt_rules, turn_taken_at};
 ghost use Rattle.tw_prompt_host.specs.Rows.{rows_view};
 ghost use Rattle.tw_prompt_host.specs.Validation.{is_accepting};
 
-use crate::answers::{answered, completing, done, judged, turn_unless};
-use crate::failing::{fails_after, is_failing};
+use crate::after_line::after_line_on;
+use crate::answers::{answered, done, judged};
+use crate::failing::{FAILING, is_failing, pattern_after};
 use crate::going::{Going, gives_up};
 use crate::hint::{Hints, history_hint, is_taking, part_taken};
 use crate::layout::{MenuStyle, menu_page};
@@ -36,8 +37,9 @@ use tw_host::{
 };
 use tw_hosts::PromptScreen;
 use tw_input::InputEvent;
-use tw_key_parts::{Edit, KeyPart, is_filled};
+use tw_key_parts::{Edit, KeyPart, is_filled, searches_after};
 use tw_line::{History, LentLines, LineEditBuffer, Movement};
+use tw_surface::CellAttributes;
 
 /// A prompt with the comforts of readline. Each event goes to the application's host first, then a hint may be taken,
 /// then the parts with keys are asked, and at last the key table. Accepting a line that is not whole does nothing, and
@@ -87,7 +89,8 @@ impl<H: LineEditorHost, L: History + LentLines, K: KeyPart, V: Validator> Prompt
         self.going = Going::new();
     }
 
-    /// Returns true if a search fails after an action.
+    /// Returns true if the editor searches, and goes on after an action for a pattern that no line of the history
+    /// contains.
     fn fails_after(
         &self,
         alloc: Global,
@@ -98,10 +101,15 @@ impl<H: LineEditorHost, L: History + LentLines, K: KeyPart, V: Validator> Prompt
             && fails_after (L.History.lines self.now.history) self.now.going.searching
             (lent_action action.entry) line.now)) }
     {
-        if !self.stops_failing_searches {
+        let searching = self.going.searching;
+        if !self.stops_failing_searches
+            || !searching
+            || !searches_after(is_filled(&self.history), action, searching)
+        {
             return Ok(false);
         }
-        fails_after(alloc, &self.history, self.going.searching, action, line)
+        let after = pattern_after(alloc, action, line)?;
+        is_failing(alloc, &self.history, after.get_line())
     }
 
     /// Returns true if the line is not whole, or during a search if the pattern fails.
@@ -113,46 +121,6 @@ impl<H: LineEditorHost, L: History + LentLines, K: KeyPart, V: Validator> Prompt
             return Ok(self.stops_failing_searches && is_failing(alloc, &self.history, line)?);
         }
         Ok(self.validator.lack(alloc, line)?.is_some())
-    }
-
-    /// Returns true if a row begins in place of accepting a line that is not whole.
-    fn opens_row(&self) -> bool
-        ensures { let v = ⟦<PromptHost<H, L, K, V> as LineEditorHost>⟧.value self.now in
-            result ≡ opens_row K.keys H.rules v }
-    {
-        self.rows.are_shown() && !self.going.searching
-    }
-
-    /// Returns the hint that an action inserts.
-    fn hint_taken(
-        &self,
-        alloc: Global,
-        action: Option<&Action>,
-        line: &LineEditBuffer,
-    ) -> Result<Option<String>, AllocError>
-        ensures { IfOk result (λ rest. option_map string_bytes rest
-            ≡ (if are_on self.now.hints then hint_taken_by (L.LentLines.lines self.now.history)
-            self.now.going.searching (lent_action action.entry) line.now else None)) }
-    {
-        if !self.hints.are_on() || self.going.searching || !is_taking(action, line) {
-            return Ok(None);
-        }
-        match history_hint(&self.history, line.get_line()) {
-            Some(rest) => Ok(Some(String::from_str(alloc, part_taken(action, rest))?)),
-            None => Ok(None),
-        }
-    }
-
-    /// Returns the line at an event: the one that comes back, or else the editor's.
-    fn event_line(
-        &self,
-        alloc: Global,
-        editor: &LineEditBuffer,
-    ) -> Result<LineEditBuffer, AllocError>
-        ensures { IfOk result (λ line. line ≡ event_line (going_view self.now.going) editor.now) }
-    {
-        let line = self.going.comes_back.as_ref().unwrap_or(editor);
-        line.try_clone(alloc)
     }
 
     /// Returns the edit of an event without the menu: a search is left, a hint is taken, or that of the parts.
@@ -168,30 +136,34 @@ impl<H: LineEditorHost, L: History + LentLines, K: KeyPart, V: Validator> Prompt
             IfOk result (λ edit. option_map (edit_view (option_map K.kept)) edit
             ≡ edit_at K.keys H.rules v (event_view event.now) line.now) }
     {
-        if self.going.searching && gives_up(event) {
+        let searching = self.going.searching;
+        if searching && gives_up(event) {
             return Ok(Some(Edit {
                 line: None,
                 action: Action::Move(Movement::None),
                 note: None,
             }));
         }
-        if let Some(rest) = self.hint_taken(alloc, default, line)? {
+        if !matches!(self.hints, Hints::Off)
+            && !searching
+            && is_taking(default, line)
+            && let Some(rest) = history_hint(&self.history, line.get_line())
+        {
+            let text = String::from_str(alloc, part_taken(default, rest))?;
             return Ok(Some(Edit {
                 line: Some(line.try_clone(alloc)?),
-                action: Action::InsertText(1, rest),
+                action: Action::InsertText(1, text),
                 note: None,
             }));
         }
-        match self
+        let edit = self
             .keys
-            .edit(alloc, self.going.searching, &self.history, event, line)?
-        {
-            Some(Edit { line, action, note }) => {
-                let note = Some(note);
-                Ok(Some(Edit { line, action, note }))
-            }
-            None => Ok(None),
-        }
+            .edit(alloc, searching, &self.history, event, line)?;
+        Ok(edit.map(|Edit { line, action, note }| Edit {
+            line,
+            action,
+            note: Some(note),
+        }))
     }
 
     /// Completes a line, whatever the menu has.
@@ -220,28 +192,24 @@ impl<H: LineEditorHost, L: History + LentLines, K: KeyPart, V: Validator> Prompt
         beginning_first(alloc, candidates)
     }
 
-    /// Returns where an event turns the menu.
-    fn turn_at(
+    /// Returns the menu with which an action begins a completion of a line, if it does.
+    fn begun(
         &self,
         alloc: Global,
-        event: &InputEvent,
-        default: Option<&Action>,
+        action: Option<&Action>,
         line: &LineEditBuffer,
-    ) -> Result<Option<Turn>, AllocError>
-        requires { lent_action default ≡ action_of (event_view event.now) }
+    ) -> Result<Option<Menu>, AllocError>
         ensures { let v = ⟦<PromptHost<H, L, K, V> as LineEditorHost>⟧.value self.now in
-            IfOk result (λ turn. option_map (turn_view (menu_view self.now.going.menu)) turn
-            ≡ turn_at K.keys H.rules v (event_view event.now) line.now) }
+            IfOk result (λ begun. option_map menu_view begun
+            ≡ begun_at K.keys H.rules v (lent_action action.entry) line.now) }
     {
-        if self.going.menu.is_open() {
-            return Ok(self.going.menu.turn(event, default));
-        }
-        if !self.going.asks(default) {
+        let is_still = matches!(self.going.menu, Menu::Closed | Menu::Few(_));
+        let completes = matches!(action, Some(Action::Complete));
+        if self.going.searching || !is_still || !completes {
             return Ok(None);
         }
         let candidates = self.found(alloc, line.get_line(), line.get_cursor())?;
-        let line = line.try_clone(alloc)?;
-        Ok(Some(Turn::Begins(Menu::begun(candidates, line))))
+        Ok(Some(Menu::begun(candidates, line.try_clone(alloc)?)))
     }
 
     /// Asks the application's host about an event at a line, which `editor` holds unless the line comes back.
@@ -253,18 +221,11 @@ impl<H: LineEditorHost, L: History + LentLines, K: KeyPart, V: Validator> Prompt
         editor: &mut LineEditBuffer,
     ) -> Result<Option<Action>, AllocError>
         requires { line.now ≡ event_line (going_view self.old.going) editor.old }
-        ensures value { let r = H.rules.resolve (H.value self.old.host)
-            (event_view event.now) line.now in
-            OnOk result (⟦<PromptHost<H, L, K, V> as LineEditorHost>⟧.value self.new
-            ≡ record (⟦<PromptHost<H, L, K, V> as LineEditorHost>⟧.value self.old) {
-              host = r.value;
-            }) }
-        ensures line { let r = H.rules.resolve (H.value self.old.host)
-            (event_view event.now) line.now in
-            OnOk result (editor.new ≡ r.cut) }
-        ensures action { let r = H.rules.resolve (H.value self.old.host)
-            (event_view event.now) line.now in
-            IfOk result (λ action. option_map action_view action ≡ r.action) }
+        ensures answer { let v = ⟦<PromptHost<H, L, K, V> as LineEditorHost>⟧.value self.old in
+            let r = H.rules.resolve v.host (event_view event.now) line.now in
+            IfOk result (λ action. (⟦<PromptHost<H, L, K, V> as LineEditorHost>⟧.value self.new
+            ≡ record v { host = r.value }) × (editor.new ≡ r.cut)
+            × (option_map action_view action ≡ r.action)) }
         ensures keys { self.new.keys ≡ self.old.keys }
         ensures going { self.new.going ≡ self.old.going }
         ensures err { OnErr result ((editor.new ≡ editor.old)
@@ -310,57 +271,12 @@ impl<H: LineEditorHost, L: History + LentLines, K: KeyPart, V: Validator> Prompt
             ≡ ⟦<PromptHost<H, L, K, V> as LineEditorHost>⟧.value self.old)) }
     {
         let edit = self.edit_at(alloc, event, default, line)?;
-        let turn = self.turn_at(alloc, event, default, line)?;
+        let begun = self.begun(alloc, default, line)?;
+        let turn = self.going.menu.turn(event, default, begun);
         let original = self.going.menu.line_of(alloc, turn.as_ref())?;
         self.keys.prepare(alloc, line)?;
         let own = self.ask_host(alloc, event, line, editor)?;
-        let turn = turn_unless::<K>(&self.going.menu, own.as_ref(), edit.as_ref(), turn);
-        let (action, note) = answered::<K>(own, completing::<K>(edit, original), editor);
-        Ok((action, note, turn))
-    }
-
-    /// Lets every part follow an event, which leads from the line before to the one after. `back` is true if its action
-    /// was held back, `fails` if the search fails after it.
-    fn follow(
-        &mut self,
-        alloc: Global,
-        note: Option<K::Note>,
-        event: &InputEvent,
-        before: LineEditBuffer,
-        after: &LineEditBuffer,
-        action: Option<&Action>,
-        back: bool,
-        fails: bool,
-        turn: Option<Turn>,
-    )
-        requires { K.is_ready self.old.keys before }
-        ensures { let v = ⟦<PromptHost<H, L, K, V> as LineEditorHost>⟧.value self.old in
-            ⟦<PromptHost<H, L, K, V> as LineEditorHost>⟧.value self.new
-            ≡ (followed K.keys H.rules v v.host (option_map K.kept note)
-            (record {
-              event = event_view event.now;
-              before = before;
-              after = after.now;
-              action = lent_action action.entry;
-              back = back;
-              fails = fails;
-              turn = option_map (turn_view (menu_view self.old.going.menu)) turn;
-            }) None).value }
-    {
-        self.keys.follow(
-            alloc,
-            note,
-            self.going.searching,
-            event,
-            &before,
-            after,
-            action,
-        );
-        let lines = is_filled(&self.history);
-        self.going
-            .follow(lines, event, before, after, action, back, fails, turn);
-        self.menu.resize(event);
-        self.screen.resize(event);
+        Ok(answered::<K>(&self.going.menu, own, edit, original, turn, editor))
     }
 
     /// Does an answer to an event, or holds it back if it would accept a line that is kept, and lets every part follow.
@@ -392,12 +308,47 @@ impl<H: LineEditorHost, L: History + LentLines, K: KeyPart, V: Validator> Prompt
             } }
     {
         let (action, note, turn) = answer;
-        let opens = self.opens_row();
+        let opens = self.rows.are_shown() && !self.going.searching;
         let (back, action) = judged(keeps, opens, event, action, default.as_ref());
         let fails = back || (action.is_none() && fails);
         let done = done(event, action.as_ref(), default.as_ref());
-        self.follow(alloc, note, event, before, after, done, back, fails, turn);
+        let searching = self.going.searching;
+        self.keys
+            .follow(alloc, note, searching, event, &before, after, done);
+        let lines = is_filled(&self.history);
+        self.going
+            .follow(lines, event, before, after, done, back, fails, turn);
+        self.menu.resize(event);
+        self.screen.resize(event);
         action
+    }
+
+    /// Returns what stands after the line: the message that a search fails, or a hint.
+    fn after_line(
+        &self,
+        alloc: Global,
+        line: &str,
+        cursor: usize,
+    ) -> Result<Vec<OutputElement>, AllocError>
+        ensures { let v = ⟦<PromptHost<H, L, K, V> as LineEditorHost>⟧.value self.now in
+            IfOk result (λ elements. map element_view elements.items
+            ≡ after_line K.keys H.rules v (cut_at line.now cursor)) }
+    {
+        if self.going.searching && self.going.fails {
+            let style = CellAttributes::default();
+            return after_line_on(alloc, &self.screen, &self.rows, line, style, FAILING);
+        }
+        if !self.going.searching
+            && !self.going.over
+            && !self.going.kept
+            && !self.going.menu.is_open()
+            && cursor == line.len()
+            && let Hints::After(style) = self.hints
+            && let Some(rest) = history_hint(&self.history, line)
+        {
+            return after_line_on(alloc, &self.screen, &self.rows, line, style, rest);
+        }
+        Ok(Vec::new(alloc))
     }
 }
 
@@ -445,19 +396,21 @@ impl<H: LineEditorHost, L: History + LentLines, K: KeyPart, V: Validator> LineEd
         if let Menu::Open(menu) = &self.going.menu {
             return menu_page(alloc, self.menu, &menu.candidates, menu.chosen);
         }
-        if self.going.kept {
-            if let Some(text) = self.validator.lack(alloc, line)? {
-                return plain_element(alloc, text.as_str());
-            }
+        if self.going.kept
+            && let Some(text) = self.validator.lack(alloc, line)?
+        {
+            return plain_element(alloc, text.as_str());
         }
         let elements = self.host.render_preview(alloc, line)?;
         if !elements.is_empty() {
             return Ok(elements);
         }
-        match self.hint_under(line) {
-            Some(rest) => plain_element(alloc, rest),
-            None => Ok(elements),
+        if self.hints == Hints::Under
+            && let Some(rest) = history_hint(&self.history, line)
+        {
+            return plain_element(alloc, rest);
         }
+        Ok(elements)
     }
 
     fn highlight_line(
@@ -495,7 +448,8 @@ impl<H: LineEditorHost, L: History + LentLines, K: KeyPart, V: Validator> LineEd
         editor: &mut LineEditBuffer,
     ) -> Result<Option<Action>, AllocError> {
         let default = default_action(alloc, event)?;
-        let before = self.event_line(alloc, editor)?;
+        let line = self.going.comes_back.as_ref().unwrap_or(editor);
+        let before = line.try_clone(alloc)?;
         let keeps = self.keeps(alloc, before.get_line())?;
         let fails = self.fails_after(alloc, default.as_ref(), &before)?;
         let answer = self.answer(alloc, event, default.as_ref(), &before, editor)?;

@@ -1,17 +1,15 @@
 //! Lines of several rows, as they are shown.
 
-ghost use Rattle.std.specs.Prelude.{◌≡◌, IfOk, OnOk, IsCharBoundary, map, string_bytes, unwrap_or};
-ghost use Rattle.tw_surface.specs.Attributes.{with_attribute};
-ghost use Rattle.tw_surface.specs.Defaults.{default_attributes};
+ghost use Rattle.std.specs.Prelude.{◌≡◌, IfOk, OnOk, IsCharBoundary, map, string_bytes};
 ghost use Rattle.tw_host.specs.ElementView.{element_view};
 ghost use Rattle.tw_hosts.specs.SettledRules.{screen_view};
 ghost use Rattle.tw_line.specs.Cut.{cut_at};
-ghost use Rattle.tw_prompt_host.specs.Rows.{are_shown, before_row, break_elements, column_in_rows, cursor_on, elements_in_rows, elements_of_text, elements_on, empty_first_row, is_full, last_shown, next_row, row_behind, row_break, row_view, row_with, rows_view, spread_from};
+ghost use Rattle.tw_prompt_host.specs.Rows.{are_shown, break_elements, cursor_on, elements_in_rows, elements_of_text, elements_on, empty_first_row, last_shown, next_row, row_behind, row_break, row_columns, row_edge, row_view, row_with, rows_view, spread_from};
 
 use std::alloc::{AllocError, Global};
-use tw_host::{OutputElement, plain_element};
+use tw_host::OutputElement;
 use tw_hosts::{PromptScreen, settled_column};
-use tw_surface::{AttributeChange, CellAttributes, unicode_column_width};
+use tw_surface::{CellAttributes, unicode_column_width};
 
 /// How a line of several rows is shown. A line feed ends a row.
 #[derive(Debug, Drop)]
@@ -41,72 +39,53 @@ impl OpenRow {
             text: String::new(alloc),
         }
     }
-
-    /// Appends to the row.
-    fn push(&mut self, text: &str) -> Result<(), AllocError>
-        ensures { OnOk result (row_view self.new ≡ row_with (row_view self.old) text.now) }
-    {
-        self.text.push_str(text)
-    }
-
-    /// Begins the next row.
-    fn begin_next(&mut self)
-        ensures { row_view self.new ≡ next_row }
-    {
-        self.is_first = false;
-        self.text.clear();
-    }
 }
 
-/// Returns what stands before a row: the prompt, or the continuation prompt.
-fn before_row<'a>(screen: &'a PromptScreen, continuation: &'a str, is_first: bool) -> &'a str
-    ensures { result.now ≡ before_row (screen_view screen.now) continuation.now is_first }
+/// Returns what stands at the end of a row: a space if the row fills its last column.
+fn row_edge(screen: &PromptScreen, continuation: &str, row: &OpenRow) -> &'static str
+    ensures { result.now ≡ row_edge screen.now.cols
+        (row_columns (screen_view screen.now) continuation.now (row_view row.now)) }
 {
-    if is_first {
+    let cols = screen.cols;
+    let before = if row.is_first {
         screen.prompt.as_str()
     } else {
         continuation
-    }
-}
-
-/// Returns true if a row fills its last column.
-#[tactic(auto, using(crate::proofs::RowLemmas::is_filled))]
-fn is_full(screen: &PromptScreen, continuation: &str, row: &OpenRow) -> bool
-    ensures { result ≡ is_full (screen_view screen.now) continuation.now (row_view row.now) }
-{
-    let cols = screen.cols;
-    let before = before_row(screen, continuation, row.is_first);
-    let start = unicode_column_width(before);
+    };
     let column = settled_column(cols, before, row.text.as_str(), row.text.len());
-    if cols == 0 || (start == 0 && column == 0) {
-        return false;
+    let columns = unicode_column_width(before) as u128 + column as u128;
+    if cols > 0 && columns > 0 && columns % cols as u128 == 0 {
+        " "
+    } else {
+        ""
     }
-    let left = cols - column % cols;
-    start % cols == left % cols
 }
 
-/// Returns what stands between a row and the next one: a space if it is full, CR LF, and the continuation prompt.
+/// Ends a row with a text, and begins the next one. Returns what stands between them: a space if the row is full, CR
+/// LF, and the continuation prompt.
 fn row_break(
     alloc: Global,
     screen: &PromptScreen,
     continuation: &str,
-    row: &OpenRow,
+    row: &mut OpenRow,
+    text: &str,
 ) -> Result<String, AllocError>
-    ensures { IfOk result (λ text. string_bytes text
-        ≡ row_break (screen_view screen.now) continuation.now (row_view row.now)) }
+    ensures between { IfOk result (λ between. string_bytes between
+        ≡ row_break (screen_view screen.now) continuation.now
+        (row_with (row_view row.old) text.now)) }
+    ensures row { OnOk result (row_view row.new ≡ next_row) }
 {
-    let edge = if is_full(screen, continuation, row) {
-        " "
-    } else {
-        ""
-    };
-    let mut text = String::from_str(alloc, edge)?;
-    text.push_str("\r\n")?;
-    text.push_str(continuation)?;
-    Ok(text)
+    row.text.push_str(text)?;
+    let mut between = String::from_str(alloc, row_edge(screen, continuation, row))?;
+    row.is_first = false;
+    row.text.clear();
+    between.push_str("\r\n")?;
+    between.push_str(continuation)?;
+    Ok(between)
 }
 
 /// Returns a text that begins in `row`, with a break for each line feed. Leaves `row` as the one in which it ends.
+#[tactic(auto, using(crate::proofs::RowLemmas::spread_last, crate::proofs::RowLemmas::behind_last))]
 fn spread(
     alloc: Global,
     screen: &PromptScreen,
@@ -121,50 +100,31 @@ fn spread(
     let mut shown = String::new(alloc);
     let mut rest = text;
     while let Some((piece, more)) = rest.split_once('\n') {
-        row.push(piece)?;
         shown.push_str(piece)?;
-        shown.push_str(row_break(alloc, screen, continuation, row)?.as_str())?;
-        row.begin_next();
+        shown.push_str(row_break(alloc, screen, continuation, row, piece)?.as_str())?;
         rest = more;
     }
-    row.push(rest)?;
+    row.text.push_str(rest)?;
     shown.push_str(rest)?;
     Ok(shown)
 }
 
-/// Returns the column of the cursor of a line that is shown in rows.
-fn column_in_rows(
-    alloc: Global,
-    screen: &PromptScreen,
-    continuation: &str,
-    line: &str,
-    cursor: usize,
-) -> Result<usize, AllocError>
-    requires { IsCharBoundary line.now cursor }
-    ensures { IfOk result (λ column. column
-        ≡ column_in_rows (screen_view screen.now) continuation.now (cut_at line.now cursor)) }
-{
-    let (before, rest) = line.split_at(cursor);
-    let mut row = OpenRow::first(alloc);
-    let mut shown = spread(alloc, screen, continuation, &mut row, before)?;
-    let at = shown.len();
-    let more = spread(alloc, screen, continuation, &mut row, rest)?;
-    shown.push_str(more.as_str())?;
-    Ok(screen.column(shown.as_str(), at))
-}
-
-/// Returns the break between a row and the next one, in the default attributes if the line has set others.
+/// Ends a row with a text, and begins the next one. Returns the break between them, in the default attributes if the
+/// line has set others.
 fn break_elements(
     alloc: Global,
     screen: &PromptScreen,
     continuation: &str,
     set: Option<CellAttributes>,
-    row: &OpenRow,
+    row: &mut OpenRow,
+    text: &str,
 ) -> Result<Vec<OutputElement>, AllocError>
-    ensures { IfOk result (λ elements. map element_view elements.items
-        ≡ break_elements (screen_view screen.now) continuation.now set (row_view row.now)) }
+    ensures elements { IfOk result (λ elements. map element_view elements.items
+        ≡ break_elements (screen_view screen.now) continuation.now set
+        (row_with (row_view row.old) text.now)) }
+    ensures row { OnOk result (row_view row.new ≡ next_row) }
 {
-    let text = row_break(alloc, screen, continuation, row)?;
+    let text = row_break(alloc, screen, continuation, row, text)?;
     let elements = match set {
         None => vec![in alloc; OutputElement::Text(text)]?,
         Some(attributes) => vec![in alloc;
@@ -177,6 +137,7 @@ fn break_elements(
 }
 
 /// Returns the elements of a text that begins in `row`, with breaks. Leaves `row` as the one in which it ends.
+#[tactic(auto, using(crate::proofs::RowLemmas::elements_last, crate::proofs::RowLemmas::behind_last, std::proofs::lemmas::Grind::common_steps))]
 fn elements_of_text(
     alloc: Global,
     screen: &PromptScreen,
@@ -193,24 +154,13 @@ fn elements_of_text(
     let mut elements = Vec::new(alloc);
     let mut rest = text;
     while let Some((piece, more)) = rest.split_once('\n') {
-        row.push(piece)?;
-        elements.append(&mut plain_element(alloc, piece)?)?;
-        elements.append(&mut break_elements(alloc, screen, continuation, set, row)?)?;
-        row.begin_next();
+        elements.push(OutputElement::Text(String::from_str(alloc, piece)?))?;
+        elements.append(&mut break_elements(alloc, screen, continuation, set, row, piece)?)?;
         rest = more;
     }
-    row.push(rest)?;
-    elements.append(&mut plain_element(alloc, rest)?)?;
+    row.text.push_str(rest)?;
+    elements.push(OutputElement::Text(String::from_str(alloc, rest)?))?;
     Ok(elements)
-}
-
-/// Returns the attributes of a line after a change.
-fn changed(set: Option<CellAttributes>, change: &AttributeChange) -> CellAttributes
-    ensures { result ≡ with_attribute change.now (unwrap_or set default_attributes) }
-{
-    let mut attributes = set.unwrap_or(CellAttributes::default());
-    attributes.apply_change(change);
-    attributes
 }
 
 /// Returns the elements of a line in rows.
@@ -230,7 +180,9 @@ fn elements_in_rows(
     for element in elements {
         match element {
             OutputElement::Attribute(change) => {
-                set = Some(changed(set, change));
+                let mut attributes = set.unwrap_or(CellAttributes::default());
+                attributes.apply_change(change);
+                set = Some(attributes);
                 shown.push(OutputElement::Attribute(*change))?;
             }
             OutputElement::AllAttributes(attributes) => {
@@ -262,6 +214,7 @@ impl Rows {
     }
 
     /// Returns what stands before the last row of a line, and that row.
+    #[tactic(auto, using(crate::proofs::RowLemmas::behind_last))]
     pub fn last_shown<'a>(&'a self, screen: &'a PromptScreen, line: &'a str) -> (&'a str, &'a str)
         ensures { (result.0.now, result.1.now)
             ≡ last_shown (screen_view screen.now) (rows_view self.now) line.now }
@@ -299,7 +252,13 @@ impl Rows {
             Rows::One => Ok((elements, screen.column(line, cursor))),
             Rows::Several(continuation) => {
                 let continuation = continuation.as_str();
-                let column = column_in_rows(alloc, screen, continuation, line, cursor)?;
+                let (before, rest) = line.split_at(cursor);
+                let mut row = OpenRow::first(alloc);
+                let mut text = spread(alloc, screen, continuation, &mut row, before)?;
+                let at = text.len();
+                let more = spread(alloc, screen, continuation, &mut row, rest)?;
+                text.push_str(more.as_str())?;
+                let column = screen.column(text.as_str(), at);
                 let shown = elements_in_rows(alloc, screen, continuation, &elements)?;
                 Ok((shown, column))
             }

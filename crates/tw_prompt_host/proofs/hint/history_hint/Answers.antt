@@ -2,7 +2,7 @@ use Rattle.std.proofs.Common.{◌≡◌, ◌<◌, ◌-◌, arith, rules, None}
 use Rattle.tw_line.specs.NearestMatch.{line_at}
 use Rattle.tw_prompt_host.specs.Hint.{continuation_of}
 use Rattle.tw_prompt_host.proofs.HintLemmas.{is_below}
-use Rattle.tw_prompt_host.proofs.hint.newest_rest.Goals as goal
+use Rattle.tw_prompt_host.proofs.hint.history_hint.Goals as goal
 
 pub loop-at-preserved : goal.loop-at-preserved
 loop-at-preserved g c =

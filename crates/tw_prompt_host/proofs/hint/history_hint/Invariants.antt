@@ -2,7 +2,7 @@ use Rattle.std.proofs.Common.{◌≡◌, ◌≤◌, length}
 use Rattle.tw_line.specs.Extremes.{greatest_below}
 use Rattle.tw_line.specs.NearestMatch.{line_at}
 use Rattle.tw_prompt_host.specs.Hint.{is_longer}
-use Rattle.tw_prompt_host.proofs.hint.newest_rest.Given as goal
+use Rattle.tw_prompt_host.proofs.hint.history_hint.Given as goal
 
 abbrev pub invariant-loop-at : goal.invariant-loop-at
 invariant-loop-at g l =
