@@ -3,9 +3,10 @@
 use crate::completers::completers;
 use crate::tables::tables;
 use std::alloc::{AllocError, Global};
+use tw_history_parts::RecentHistory;
 use tw_hosts::TableHost;
 use tw_key_parts::RowKeys;
-use tw_lineedit::{BasicHistory, BoundedHistory};
+use tw_lineedit::BasicHistory;
 use tw_prompt::{AllKeys, all_keys};
 use tw_prompt_host::{Hints, NestedLines, PromptHost, Rows, common_pairs};
 
@@ -19,7 +20,7 @@ const CONTINUATION: &str = "... ";
 pub type DemoKeys = (RowKeys, AllKeys);
 
 /// The host of the prompt.
-pub type DemoHost = PromptHost<TableHost<BasicHistory>, BoundedHistory, DemoKeys, NestedLines>;
+pub type DemoHost = PromptHost<TableHost<BasicHistory>, RecentHistory, DemoKeys, NestedLines>;
 
 /// Creates the host. It knows no files and no terminal yet.
 pub fn demo_host(alloc: Global, prompt: &str) -> Result<DemoHost, AllocError> {
@@ -29,7 +30,7 @@ pub fn demo_host(alloc: Global, prompt: &str) -> Result<DemoHost, AllocError> {
     let continuation = String::from_str(alloc, CONTINUATION)?;
     let mut host = PromptHost::new(alloc, prompt, 80)?
         .with_host(TableHost::new(tables, BasicHistory::new(alloc)))
-        .with_history(BoundedHistory::with_limit(alloc, LINES_KEPT))
+        .with_history(RecentHistory::new(alloc, LINES_KEPT))
         .with_keys((RowKeys::new(), all_keys(alloc)))
         .with_validator(NestedLines { pairs });
     host.completers = completers;

@@ -15,8 +15,9 @@ mod tables;
 use anyhow::anyhow;
 use host::{DemoKeys, demo_host};
 use tw_device::{AnsiTerminal, Answer, DeviceTerminal};
+use tw_history_parts::RecentHistory;
 use tw_hosts::TableHost;
-use tw_lineedit::{BasicHistory, BoundedHistory};
+use tw_lineedit::BasicHistory;
 use tw_prompt::{
     Arguments, Prompt, PromptEvents, TerminalInput, TypedEvents, open_streams, read_listing,
 };
@@ -28,7 +29,7 @@ use tw_terminal::ScreenSize;
 const PROMPT: &str = "> ";
 
 /// The prompt at a terminal.
-type DemoPrompt<T> = Prompt<T, TableHost<BasicHistory>, BoundedHistory, DemoKeys, NestedLines>;
+type DemoPrompt<T> = Prompt<T, TableHost<BasicHistory>, RecentHistory, DemoKeys, NestedLines>;
 
 /// Prints a line. Returns false for `quit`.
 fn obey<T: DeviceTerminal + Drop>(

@@ -4,14 +4,12 @@ use script_player::ListHistory;
 use std::alloc::Global;
 use std::test::Fail;
 use test_cases::{expect_cases, hold, play_history};
-use tw_lineedit::{BasicHistory, BoundedHistory};
+use tw_history_parts::RecentHistory;
+use tw_lineedit::BasicHistory;
 
-/// Makes calls on a history that keeps `limit` lines.
-fn play_bounded(alloc: Global, limit: usize, calls: &str) -> Result<String, Fail> {
-    if limit == 0 {
-        return Err(Fail::from("no limit"));
-    }
-    play_history(alloc, &mut BoundedHistory::with_limit(alloc, limit), calls)
+/// Makes calls on a history that keeps the newest `limit` lines.
+fn play_newest(alloc: Global, limit: usize, calls: &str) -> Result<String, Fail> {
+    play_history(alloc, &mut RecentHistory::new(alloc, limit), calls)
 }
 
 /// Makes calls on a history of each kind, which keep all lines.
@@ -19,8 +17,8 @@ fn play_all(alloc: Global, calls: &str) -> Result<String, Fail> {
     let basic = play_history(alloc, &mut BasicHistory::new(alloc), calls)?;
     let list = play_history(alloc, &mut ListHistory::new(alloc), calls)?;
     hold(list == basic, basic.as_str(), list.as_str())?;
-    let bounded = play_bounded(alloc, 5, calls)?;
-    hold(bounded == basic, basic.as_str(), bounded.as_str())?;
+    let newest = play_newest(alloc, 5, calls)?;
+    hold(newest == basic, basic.as_str(), newest.as_str())?;
     Ok(basic)
 }
 
@@ -31,7 +29,7 @@ fn play_lookups(alloc: Global, calls: &str) -> Result<String, Fail> {
         return play_all(alloc, calls);
     };
     let (limit, calls) = rest.split_once('\n').ok_or("no calls")?;
-    play_bounded(alloc, limit.parse()?, calls)
+    play_newest(alloc, limit.parse()?, calls)
 }
 
 const ADDED: &str = "\

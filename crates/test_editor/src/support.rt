@@ -5,7 +5,8 @@ use script_player::ListHistory;
 use std::alloc::Global;
 use std::test::Fail;
 use test_cases::{Case, ColumnHost, ResolvingHost, case_of, hold, host_of, remember_all, told_of};
-use tw_lineedit::{BasicHistory, BoundedHistory, History, LineEditorHost, NopLineEditorHost};
+use tw_history_parts::RecentHistory;
+use tw_lineedit::{BasicHistory, History, LineEditorHost, NopLineEditorHost};
 
 /// Plays a case over a host with its lines in the history.
 fn play_over<H: LineEditorHost>(
@@ -35,8 +36,8 @@ fn play_with_both(alloc: Global, case: &Case<'_>) -> Result<String, Fail> {
     Ok(outcome)
 }
 
-/// Plays a case over the host of this name: `plain`, `resolving`, `stray`, `column COLUMN`, `kept LINES` with a bounded
-/// history, or that of a script if there is no name.
+/// Plays a case over the host of this name: `plain`, `resolving`, `stray`, `column COLUMN`, `kept LINES` with a history
+/// of the newest lines, or that of a script if there is no name.
 fn play_by(alloc: Global, case: &Case<'_>, host: &str) -> Result<String, Fail> {
     let (name, number) = host.split_once(' ').unwrap_or((host, "0"));
     let number: usize = number.parse()?;
@@ -45,7 +46,7 @@ fn play_by(alloc: Global, case: &Case<'_>, host: &str) -> Result<String, Fail> {
         "resolving" => play_over(alloc, case, &mut ResolvingHost::new(alloc)),
         "stray" => play_over(alloc, case, &mut stray_host(alloc)),
         "column" => play_over(alloc, case, &mut ColumnHost::new(alloc, number)),
-        "kept" if number > 0 => play_with(alloc, case, BoundedHistory::with_limit(alloc, number)),
+        "kept" => play_with(alloc, case, RecentHistory::new(alloc, number)),
         "" => play_with_both(alloc, case),
         _ => Err(Fail::from("no host of this name")),
     }

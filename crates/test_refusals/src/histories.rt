@@ -4,7 +4,8 @@ use script_player::ListHistory;
 use std::alloc::Global;
 use std::test::Fail;
 use test_cases::{expect_cases, play_history};
-use tw_lineedit::{BasicHistory, BoundedHistory};
+use tw_history_parts::RecentHistory;
+use tw_lineedit::BasicHistory;
 
 fn play_basic(alloc: Global, calls: &str) -> Result<String, Fail> {
     play_history(alloc, &mut BasicHistory::new(alloc), calls)
@@ -14,9 +15,9 @@ fn play_list(alloc: Global, calls: &str) -> Result<String, Fail> {
     play_history(alloc, &mut ListHistory::new(alloc), calls)
 }
 
-/// Of a history of two lines at most.
-fn play_bounded(alloc: Global, calls: &str) -> Result<String, Fail> {
-    play_history(alloc, &mut BoundedHistory::with_limit(alloc, 2), calls)
+/// Of a history of the newest two lines.
+fn play_newest(alloc: Global, calls: &str) -> Result<String, Fail> {
+    play_history(alloc, &mut RecentHistory::new(alloc, 2), calls)
 }
 
 /// Searches find nothing less after a refused addition.
@@ -84,7 +85,7 @@ c|d|
 
 #[test]
 fn forgotten_lines_refused_in_turn(rt: HostRuntime) -> Result<(), Fail> {
-    expect_cases(rt.alloc(), FORGOTTEN, play_bounded)
+    expect_cases(rt.alloc(), FORGOTTEN, play_newest)
 }
 
 /// A line that is the last one already, and what the histories are asked.
@@ -150,5 +151,5 @@ None
 #[test]
 fn histories_are_asked_without_memory(rt: HostRuntime) -> Result<(), Fail> {
     expect_cases(rt.alloc(), ASKED, play_basic)?;
-    expect_cases(rt.alloc(), ASKED_OF_TWO, play_bounded)
+    expect_cases(rt.alloc(), ASKED_OF_TWO, play_newest)
 }

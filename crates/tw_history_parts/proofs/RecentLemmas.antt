@@ -1,8 +1,8 @@
 -- The newest lines, and lines that stand once.
-use Rattle.std.proofs.Common.{◌≡◌, ◌≢◌, ℕ, ◌+◌, Bool, true, List, [], ◌∷◌, ◌++◌, length, map, drop, refl, sym, ap, subst, true≢false, ◌∙◌, String, string_bytes, arith}
+use Rattle.std.proofs.Common.{◌≡◌, ◌≢◌, ℕ, ◌+◌, ◌-◌, ◌<◌, ◌≤◌, zero, suc, Bool, true, List, [], ◌∷◌, ◌++◌, length, map, drop, refl, sym, ap, subst, true≢false, ◌∙◌, Some, String, string_bytes, arith, length-append}
 use Rattle.std.specs.Prelude.{not, Err, Ok, OnErr, OnOk, Result}
 use Rattle.std.specs.declared.alloc.Global.{Global}
-use Rattle.std.specs.List.{AllPairs, filter, items_where_true}
+use Rattle.std.specs.List.{AllPairs, filter, items_where_true, slice_get}
 use Rattle.std.specs.List.Retain.{ReturnsInTurn}
 use lib.Pointwise.{bytes_decides}
 use Rattle.std.proofs.lemmas.Bool.Decides.{nat_tests}
@@ -10,9 +10,29 @@ use Rattle.std.proofs.lemmas.List.{get_or-drop, length-drop}
 use Rattle.std.proofs.lemmas.List.Elements.{filter_passes}
 use Rattle.std.proofs.lemmas.List.Kept.{AllPairs-filter}
 use Rattle.std.proofs.lemmas.List.Quantifiers.{all_pairs_push}
-use Rattle.tw_line.specs.Bounded.{newest}
+use Rattle.tw_line.specs.NearestMatch.{last_line}
 use Rattle.tw_history_parts.specs.Reading.{AddsAll}
-use Rattle.tw_history_parts.specs.Recent.{AreUnique, RecentLines, StaysUnique, is_another, older_lines, with_recent}
+use Rattle.tw_history_parts.specs.Recent.{AreUnique, RecentLines, StaysUnique, is_another, newest, older_lines, with_recent}
+
+-- ---- the newest lines
+
+at_end : (xs : List (List ℕ)) (x : List ℕ) → slice_get (xs ++ x ∷ []) (length xs) ≡ Some x
+at_end [] x = refl
+at_end (y ∷ xs) x = at_end xs x
+
+last_line-push : (xs : List (List ℕ)) (x : List ℕ) → last_line (xs ++ x ∷ []) ≡ Some x
+last_line-push xs x =
+    let last : length (xs ++ x ∷ []) - 1 ≡ length xs = omega (arith, length-append xs (x ∷ [])) in
+    ap (slice_get (xs ++ x ∷ [])) last ∙ at_end xs x
+
+last_line-drop : (k : ℕ) (xs : List (List ℕ)) (x : List ℕ) → k ≤ length xs → last_line (drop k (xs ++ x ∷ [])) ≡ Some x
+last_line-drop zero xs x low = last_line-push xs x
+last_line-drop (suc k) [] x low = absurd (omega (arith, low))
+last_line-drop (suc k) (y ∷ xs) x low = last_line-drop k xs x (omega (arith, low))
+
+-- a line that is put after others is the last of the newest
+pub last_line_newest : (limit : ℕ) (xs : List (List ℕ)) (x : List ℕ) → 0 < limit → last_line (newest limit (xs ++ x ∷ [])) ≡ Some x
+last_line_newest limit xs x some = last_line-drop _ xs x (omega (arith, some, length-append xs (x ∷ [])))
 
 -- ---- lines that stand once
 

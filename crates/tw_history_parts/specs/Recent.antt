@@ -1,8 +1,8 @@
 -- A history that keeps the newest lines, and no line twice if it is unique.
-use Rattle.std.specs.Prelude.{◌≡◌, ◌≢◌, ◌==◌, ℕ, Bool, true, eqb, not, List, [], ◌∷◌, ◌++◌, if◌then◌else◌}
+use Rattle.std.specs.Prelude.{◌≡◌, ◌≢◌, ◌==◌, ◌-◌, ℕ, Bool, true, eqb, not, List, [], ◌∷◌, ◌++◌, drop, length, map, String, string_bytes, if◌then◌else◌}
+use Rattle.std.specs.declared.alloc.Global.{Global}
 use Rattle.std.specs.Cmp.Lexicographic.{pointwise}
 use Rattle.std.specs.List.{AllPairs, filter}
-use Rattle.tw_line.specs.Bounded.{newest}
 use Rattle.tw_line.specs.HistoryAdditions.{is_line}
 use Rattle.tw_line.specs.NearestMatch.{last_line}
 
@@ -11,6 +11,10 @@ pub record RecentLines : Type 0 where
   pub lines : List (List ℕ)
   pub limit : ℕ
   pub is_unique : Bool
+
+-- the lines of entries
+abbrev pub lines_of_entries : List (String Global) → List (List ℕ)
+lines_of_entries entries = map string_bytes entries
 
 abbrev pub at_least_one : ℕ → ℕ
 at_least_one count = if count == 0 then 1 else count
@@ -26,6 +30,10 @@ is_another line older = not (pointwise eqb older line)
 -- the lines that stay where one is added: the others, if none is to stand twice
 abbrev pub older_lines : Bool → List ℕ → List (List ℕ) → List (List ℕ)
 older_lines is_unique line lines = if is_unique then filter (is_another line) lines else lines
+
+-- the last of the lines, `limit` at most
+abbrev pub newest : ℕ → List (List ℕ) → List (List ℕ)
+newest limit lines = drop (length lines - limit) lines
 
 -- the newest of these and the line; one that is the last line already changes nothing
 abbrev pub with_recent : RecentLines → List ℕ → RecentLines

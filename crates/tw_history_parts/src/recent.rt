@@ -1,12 +1,11 @@
 //! A history that keeps the newest lines.
 
 ghost use Rattle.std.specs.Cow.{IsBorrowedStr, cow_str_bytes};
-ghost use Rattle.std.specs.Prelude.{◌≡◌, ◌≤◌, ◌<◌, ◌==◌, ◌++◌, ◌∷◌, [], IfOk, IfSome, IsCharBoundary, IsOkAnd, OnErr, OnOk, Some, false, if◌then◌else◌, length, option_map, slice_get, string_bytes, true};
+ghost use Rattle.std.specs.Prelude.{◌≡◌, ◌≤◌, ◌<◌, ◌==◌, ◌++◌, ◌∷◌, [], IfOk, IfSome, IsCharBoundary, IsOk, IsOkAnd, OnErr, OnOk, Some, false, if◌then◌else◌, length, option_map, slice_get, string_bytes, true};
 ghost use Rattle.std.specs.VecDeque.{deque_capacity, deque_len};
-ghost use Rattle.tw_line.specs.Bounded.{lines_of_entries, newest};
 ghost use Rattle.tw_line.specs.HistoryAdditions.{is_line, match_view};
 ghost use Rattle.tw_line.specs.NearestMatch.{last_line, nearest_match};
-ghost use Rattle.tw_history_parts.specs.Recent.{no_recent_lines, older_lines, with_recent};
+ghost use Rattle.tw_history_parts.specs.Recent.{lines_of_entries, newest, no_recent_lines, older_lines, with_recent};
 
 use std::alloc::{AllocError, Global};
 use std::borrow::CowStr;
@@ -145,11 +144,12 @@ impl History for RecentHistory {
 
     /// Adds a line at the end, unless it is the last line already. The same line goes away if none is to stand twice,
     /// or else the oldest one if there are too many then. If memory is lacking, the lines stay as they were.
-    #[tactic(auto, using(tw_line::proofs::BoundedLemmas::last_line_newest))]
+    #[tactic(auto, using(crate::proofs::RecentLemmas::last_line_newest))]
     fn add(&mut self, line: &str) -> Result<(), AllocError>
         ensures last { OnOk result (last_line self.new.lines ≡ Some line.now) }
         ensures refused { OnErr result (self.new ≡ self.old) }
         ensures added { OnOk result (self.new ≡ with_recent self.old line.now) }
+        ensures doubled { last_line self.old.lines ≡ Some line.now → IsOk result }
     {
         if self.ends_with(line) {
             return Ok(());

@@ -1,6 +1,5 @@
 pub mod SearchLemmas
 pub mod JoinedLemmas
-pub mod BoundedLemmas
 pub mod ExtremesLemmas
 pub mod BoundaryLemmas
 pub mod ClusterLemmas

@@ -2,7 +2,6 @@ pub mod Patterns
 pub mod NearestMatch
 pub mod HistoryAdditions
 pub mod Joined
-pub mod Bounded
 pub mod SearchLaws
 pub mod Extremes
 pub mod Cut

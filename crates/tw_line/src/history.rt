@@ -8,10 +8,8 @@ ghost use Rattle.tw_line.specs.Joined.{AreEnds, ends_from, lines_from};
 ghost use Rattle.tw_line.specs.NearestMatch.{last_index, last_line, line_at, nearest_match, next_index};
 ghost use Rattle.tw_line.specs.Patterns.{first};
 
-mod bounded;
 mod nearest;
 
-pub use bounded::BoundedHistory;
 pub use nearest::{LentLines, nearest_line};
 use std::alloc::{AllocError, Global};
 use std::borrow::CowStr;

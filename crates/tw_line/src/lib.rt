@@ -4,9 +4,8 @@
 //! over grapheme clusters, and `words`, those over words. `text` is the text that the line stands in, and `starts`
 //! the list of the offsets at which its characters start.
 //!
-//! `history` has the trait of histories and the one in memory; `history::bounded` the one that forgets its oldest
-//! lines; `history::nearest` lines that are lent, and the search for the nearest one. `laws` has what follows from
-//! the definitions.
+//! `history` has the trait of histories and the one in memory; `history::nearest` lines that are lent, and the search
+//! for the nearest one. `laws` has what follows from the definitions.
 #![tactic(auto)]
 
 mod buffer;
@@ -20,7 +19,7 @@ mod words;
 
 pub use buffer::LineEditBuffer;
 pub use history::{
-    BasicHistory, BoundedHistory, History, HistoryIndex, LentLines, SearchDirection, SearchResult,
-    SearchStyle, nearest_line,
+    BasicHistory, History, HistoryIndex, LentLines, SearchDirection, SearchResult, SearchStyle,
+    nearest_line,
 };
 pub use movements::{Movement, RepeatCount};

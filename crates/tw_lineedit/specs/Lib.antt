@@ -23,7 +23,6 @@ pub use Rattle.tw_line.specs.Patterns
 pub use Rattle.tw_line.specs.NearestMatch
 pub use Rattle.tw_line.specs.HistoryAdditions
 pub use Rattle.tw_line.specs.Joined
-pub use Rattle.tw_line.specs.Bounded
 pub use Rattle.tw_line.specs.SearchLaws
 pub use Rattle.tw_host.specs.ActionView
 pub use Rattle.tw_host.specs.KeyTable

@@ -50,7 +50,7 @@ pub use tw_host::{
     copy_candidates, default_action, plain_element, plain_line,
 };
 pub use tw_line::{
-    BasicHistory, BoundedHistory, History, HistoryIndex, LentLines, LineEditBuffer, Movement,
-    RepeatCount, SearchDirection, SearchResult, SearchStyle, nearest_line,
+    BasicHistory, History, HistoryIndex, LentLines, LineEditBuffer, Movement, RepeatCount,
+    SearchDirection, SearchResult, SearchStyle, nearest_line,
 };
 pub use tw_session::{Error, Session};

@@ -4,7 +4,8 @@ use crate::rounds::play::{Notes, Played};
 use crate::stage::Stage;
 use script_player::ListHistory;
 use std::alloc::{AllocError, Global};
-use tw_lineedit::{BasicHistory, BoundedHistory, History};
+use tw_history_parts::RecentHistory;
+use tw_lineedit::{BasicHistory, History};
 use tw_terminal::ScriptTerminal;
 
 /// More lines than any round has.
@@ -27,13 +28,13 @@ pub fn judge(alloc: Global, seed: u64, played: &mut Played) -> Result<(), anyhow
         list,
         "a list of strings has other answers",
     )?;
-    let bounded = BoundedHistory::with_limit(alloc, MANY_LINES);
+    let newest = RecentHistory::new(alloc, MANY_LINES);
     judge_over(
         alloc,
         seed,
         played,
-        bounded,
-        "a bounded history has other answers",
+        newest,
+        "a history of the newest lines has other answers",
     )?;
     if played.round.plain {
         judge_screen(alloc, played)?;

@@ -1,6 +1,5 @@
 use Rattle.std.proofs.Common.{string_bytes, sym, ap, ◌∙◌, rules, tests}
-use Rattle.tw_line.specs.Bounded.{lines_of_entries}
-use Rattle.tw_history_parts.specs.Recent.{is_another, older_lines}
+use Rattle.tw_history_parts.specs.Recent.{is_another, lines_of_entries, older_lines}
 use Rattle.tw_history_parts.proofs.RecentLemmas.{kept_by, others_kept}
 use Rattle.tw_history_parts.proofs.recent.make_way.Goals as goal
 

@@ -1,5 +1,5 @@
 use Rattle.std.proofs.Common.{string_bytes}
-use Rattle.tw_line.specs.Bounded.{lines_of_entries}
+use Rattle.tw_history_parts.specs.Recent.{lines_of_entries}
 use Rattle.tw_history_parts.proofs.RecentLemmas.{unique_after}
 use Rattle.tw_history_parts.proofs.recent.RecentHistoryHistory.add.Goals as goal
 
