@@ -153,7 +153,7 @@ fn line_of(alloc: Global, kind: &str, bytes: &[u8], step: usize) -> Result<Strin
         } else {
             Escape::AtOnce
         };
-        let mut keys = KeyReader::with_escape(alloc, reader, escape);
+        let mut keys = KeyReader::new(alloc, reader).with_escape(escape);
         read_typed_line(alloc, &mut keys, &mut screen, &mut host, "> ")
     };
     Ok(answer_text(alloc, &answer)?)

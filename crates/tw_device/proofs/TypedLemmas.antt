@@ -8,13 +8,12 @@ use Rattle.tw_ansi.specs.declared.token.Scanned.{Scanned}
 use Rattle.tw_ansi.specs.declared.token.Token.{Token}
 use Rattle.tw_ansi.specs.declared.token.Token.TheVariants.{Key, Size, Paste, Unknown}
 use Rattle.tw_ansi.specs.KeyBytes.{token_at}
-use Rattle.tw_device.specs.Faults.{fault_of}
 use Rattle.tw_device.specs.Told.{token_events}
 use Rattle.tw_device.specs.Typed.{Held, Step, Came, Took, Lead, TellsIn, TellsTyped, next_token, is_at_hand, is_event_in, is_key_or_paste, escape_waits, is_lone_escape, held_after_read, held_after_token, given_bytes, taken_by, told_by, taken_bytes, events_of, NoneIsLost, IsHeldUp, IsPasted}
 use Rattle.tw_device.specs.declared.escape.Escape.{Escape}
 use Rattle.tw_device.specs.declared.pasted.Pasted.{Pasted}
-use Rattle.tw_device.specs.declared.refused.Refused.{Refused}
-use Rattle.tw_device.specs.declared.refused.Refused.TheVariants.{Device, Memory}
+use Rattle.tw_terminal.specs.declared.terminal.TerminalFault.{TerminalFault}
+use Rattle.tw_terminal.specs.declared.terminal.TerminalFault.TheVariants.{Device, Memory}
 
 kept_consumes : (a b c : Option (List ℕ)) (bs : List ℕ) → Keeps a b → Consumes b c bs → Consumes a c bs
 kept_consumes None b c bs p q = tt
@@ -128,21 +127,21 @@ tells_took n a b m c f is_last s g scanned last found told is =
 
 -- why a call is refused
 
-wanted : (why : Refused) (old c : Held) → next_token false c ≡ None → IsHeldUp (fault_of why) old c
+wanted : (why : TerminalFault) (old c : Held) → next_token false c ≡ None → IsHeldUp why old c
 wanted Device old c wants = inl wants
 wanted Memory old c wants = inl wants
 
 -- more bytes are wanted
-pub wants_more : (why : Refused) (old b m c : Held) → m ≡ b → None ≡ next_token false b → c ≡ record m { left = c.left } → IsHeldUp (fault_of why) old c
+pub wants_more : (why : TerminalFault) (old b m c : Held) → m ≡ b → None ≡ next_token false b → c ≡ record m { left = c.left } → IsHeldUp why old c
 wants_more why old b m c scanned wants same =
     wanted why old c (ap (next_token false) same ∙ ap (next_token false) scanned ∙ sym wants)
 
 -- there is no memory for a pasted text
-pub wants_memory : (why : Refused) (old b c : Held) (is_last : Bool) (s : Scanned) → c ≡ b → Some s ≡ next_token is_last b → (why ≡ Memory) × IsPasted s.token
-    → IsHeldUp (fault_of why) old c
+pub wants_memory : (why : TerminalFault) (old b c : Held) (is_last : Bool) (s : Scanned) → c ≡ b → Some s ≡ next_token is_last b → (why ≡ Memory) × IsPasted s.token
+    → IsHeldUp why old c
 wants_memory why old b c is_last s same found refused =
     let found_then : next_token is_last c ≡ Some s = ap (next_token is_last) same ∙ sym found in
-    subst (λ x. IsHeldUp (fault_of x) old c) (sym refused.0) (inr (is_last, s, found_then, refused.1))
+    subst (λ x. IsHeldUp x old c) (sym refused.0) (inr (is_last, s, found_then, refused.1))
 
 -- no byte is lost
 

@@ -1,8 +1,6 @@
 pub mod Asked
 pub mod Calls
 pub mod Deeds
-pub mod EventLog
-pub mod Faults
 pub mod Keys
 pub mod Led
 pub mod Live

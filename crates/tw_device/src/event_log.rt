@@ -1,41 +1,25 @@
-//! The events that a source told, for contracts alone: they take no memory, however many they are.
+//! The events that a source told.
 
 ghost use Rattle.std.specs.Prelude.{◌≡◌, ◌∷◌, [], ◌++◌};
 ghost use Rattle.tw_input.specs.EventView.{event_view};
 
 use std::marker::Model;
-use std::snapshot::Snapshot;
 use tw_input::InputEvent;
+use tw_terminal::Log;
 
 /// The events that a source told, in order, as its `EventSource::told` needs them.
-#[cycle(events)]
 #[derive(Drop)]
 pub struct EventLog {
-    link: EventLink,
-}
-
-#[cycle(events)]
-#[derive(Drop)]
-enum EventLink {
-    Start,
-    Behind(Snapshot<EventLog>, Snapshot<InputEvent>),
+    events: Log<InputEvent>,
 }
 
 impl Model for EventLog {
-    ghost use Rattle.std.specs.Prelude.{List, length};
-    ghost use Rattle.tw_input.specs.EventView.{EventView};
+    ghost use Rattle.std.specs.Prelude.{List, map};
+    ghost use Rattle.tw_input.specs.EventView.{EventView, event_view};
 
     ghost Value = { List EventView };
 
-    ghost use Rattle.tw_device.specs.EventLog.{events_in};
-
-    ghost view = { λ log. events_in log.link };
-
-    ghost size = { length };
-
-    ghost use Rattle.std.proofs.Common.{arith, length-append};
-
-    ghost size_decreases = { λ a h. Prim.grind (arith, length-append) };
+    ghost view = { λ log. map event_view log.events };
 }
 
 impl EventLog {
@@ -43,9 +27,7 @@ impl EventLog {
     pub fn new() -> Self
         ensures { result ≡ [] }
     {
-        EventLog {
-            link: EventLink::Start,
-        }
+        EventLog { events: Log::new() }
     }
 
     /// Returns the log with one more event.
@@ -53,7 +35,7 @@ impl EventLog {
         ensures { result ≡ self.now ++ event_view event.now ∷ [] }
     {
         EventLog {
-            link: EventLink::Behind(Snapshot::of(self), Snapshot::of(event)),
+            events: self.events.with_item(event),
         }
     }
 }

@@ -3,19 +3,17 @@
 ghost use Rattle.std.specs.Prelude.{◌≡◌, ◌≤◌, ◌==◌, ◌++◌, ◌∷◌, ℕ, [], List, length, drop, true, false, IfSome, IfOk, IfErr, OnOk, OnErr, MatchOption, ⊤};
 ghost use Rattle.std.specs.Io.KnownBytes.{Consumes, IsAtEnd, Keeps};
 ghost use Rattle.tw_input.specs.EventView.{event_view, EventView};
-ghost use Rattle.tw_device.specs.Faults.{fault_of};
+ghost use Rattle.tw_terminal.specs.declared.terminal.TerminalFault.TheVariants.{Memory};
 ghost use Rattle.tw_device.specs.Keys.{held_by, is_at_end};
 ghost use Rattle.tw_device.specs.Told.{token_events, events_in_option, answer_events};
 ghost use Rattle.tw_device.specs.Typed.{piece, next_token, is_at_hand, IsPasted, TellsTyped, IsHeldUp};
 ghost use Rattle.tw_device.specs.declared.keys.SourceState.TheVariants.{Going, AtEnd, Refused as HasRefused};
-ghost use Rattle.tw_device.specs.declared.refused.Refused.TheVariants.{Memory};
 ghost use Rattle.tw_device.specs.declared.escape.Escape.TheVariants.{AtOnce};
 ghost use Rattle.tw_device.specs.declared.pasted.Pasted.TheVariants.{OneRow};
 
 use crate::escape::Escape;
 use crate::event_log::EventLog;
 use crate::pasted::{Pasted, pasted_text};
-use crate::refused::Refused;
 use crate::unread::{PIECE, Unread};
 use std::alloc::Global;
 use std::io::Read;
@@ -90,31 +88,24 @@ impl<R: Read> KeyReader<R> {
           left = R.remaining reader;
         } }
     {
-        KeyReader::with_escape(alloc, reader, Escape::AtOnce)
-    }
-
-    /// Creates a reader with this choice for an ESC alone. A pasted text has one row.
-    pub fn with_escape(alloc: Global, reader: R, escape: Escape) -> Self
-        ensures told { ⟦<KeyReader<R> as EventSource>⟧.told result ≡ [] }
-        ensures going { ⟦<KeyReader<R> as EventSource>⟧.state result ≡ Going }
-        ensures held { held_by R.remaining result ≡ record {
-          escape = escape;
-          pasted = OneRow;
-          unread = [];
-          was_full = false;
-          left = R.remaining reader;
-        } }
-    {
         KeyReader {
             alloc,
             reader,
-            escape,
+            escape: Escape::AtOnce,
             pasted: Pasted::OneRow,
             unread: Unread::new(alloc),
             was_full: false,
             state: SourceState::Going,
             told: EventLog::new(),
         }
+    }
+
+    /// Returns the reader with this choice for an ESC alone.
+    pub fn with_escape(mut self, escape: Escape) -> Self
+        ensures { result ≡ record self { escape = escape } }
+    {
+        self.escape = escape;
+        self
     }
 
     /// Returns the reader with this choice for pasted texts.
@@ -134,14 +125,14 @@ impl<R: Read> KeyReader<R> {
 
     /// Returns the next event, or `None` at the end of what is typed.
     #[tactic(auto, using(crate::proofs::ReadLemmas::none_left))]
-    fn find(&mut self) -> Result<Option<InputEvent>, Refused>
+    fn find(&mut self) -> Result<Option<InputEvent>, TerminalFault>
         ensures told { self.new.told ≡ self.old.told }
         ensures tells { TellsTyped (held_by R.remaining self.old) (held_by R.remaining self.new)
             (answer_events result) }
         ensures at_end { IfOk result (λ event. MatchOption event
             ((self.new.unread ≡ []) × IsAtEnd (R.remaining self.new.reader))
             (λ _. ⊤)) }
-        ensures held_up { IfErr result (λ refused. IsHeldUp (fault_of refused)
+        ensures held_up { IfErr result (λ fault. IsHeldUp fault
             (held_by R.remaining self.old) (held_by R.remaining self.new)) }
         ensures at_hand { is_at_hand (held_by R.remaining self.old) ≡ true → self.new.reader
             ≡ self.old.reader }
@@ -159,7 +150,7 @@ impl<R: Read> KeyReader<R> {
                 None => is_last = !self.read()?,
             }
         }
-        Err(Refused::Device)
+        Err(TerminalFault::Device)
     }
 
     /// Returns the token at the front, if it does not depend on bytes that are not read yet.
@@ -187,7 +178,7 @@ impl<R: Read> KeyReader<R> {
     }
 
     /// Reads what there is, and waits if there is nothing. Returns false at the end. A refusal loses no byte.
-    fn read(&mut self) -> Result<bool, Refused>
+    fn read(&mut self) -> Result<bool, TerminalFault>
         ensures ok { OnOk result ((more : List ℕ) × (self.new.unread ≡ self.old.unread ++ more)
             × (self.new.was_full ≡ (length more == piece))
             × Consumes (R.remaining self.old.reader) (R.remaining self.new.reader) more) }
@@ -207,14 +198,14 @@ impl<R: Read> KeyReader<R> {
 
     /// Takes a token and returns its event, or `None` if its bytes mean nothing. A refusal takes no byte, so that the
     /// next call finds the token again.
-    fn take(&mut self, found: Scanned) -> Result<Option<InputEvent>, Refused>
+    fn take(&mut self, found: Scanned) -> Result<Option<InputEvent>, TerminalFault>
         requires { found.used ≤ length self.old.unread }
         ensures told { self.new.told ≡ self.old.told }
         ensures event { IfOk result (λ event. events_in_option event
             ≡ token_events self.old.pasted found.token self.old.unread) }
         ensures taken { OnOk result (self.new.unread ≡ drop found.used self.old.unread) }
         ensures kept { OnErr result (self.new.unread ≡ self.old.unread) }
-        ensures refused { IfErr result (λ refused. (refused ≡ Memory) × IsPasted found.token) }
+        ensures refused { IfErr result (λ fault. (fault ≡ Memory) × IsPasted found.token) }
         ensures rest { (self.new.reader ≡ self.old.reader) × (self.new.escape ≡ self.old.escape)
             × (self.new.was_full ≡ self.old.was_full) × (self.new.pasted ≡ self.old.pasted) }
     {
@@ -278,8 +269,7 @@ impl<R: Read> EventSource for KeyReader<R> {
                 self.state = SourceState::AtEnd;
                 Ok(None)
             }
-            Err(refused) => {
-                let fault = TerminalFault::from(refused);
+            Err(fault) => {
                 self.state = SourceState::Refused(fault);
                 Err(fault)
             }

@@ -3,8 +3,7 @@
 //! `device` says what a terminal at a device is, and `terminal` has the one over a writer; `keys` the source of events
 //! over a reader, with `unread`, the bytes that were read and are not yet taken, `escape`, what an ESC alone is, and
 //! `pasted`, what a pasted text becomes; `reading` reads a line as the events come, and `typed` one from the bytes of a
-//! reader. `refused` says why a call to a device is refused, and `event_log` has the events that a source told, which
-//! only contracts name.
+//! reader. `event_log` has the events that a source told, which only contracts name.
 #![tactic(auto)]
 
 mod device;
@@ -14,7 +13,6 @@ mod keys;
 pub mod laws;
 mod pasted;
 mod reading;
-mod refused;
 mod terminal;
 mod typed;
 mod unread;

@@ -8,13 +8,11 @@ ghost use Rattle.tw_terminal.specs.TerminalState.{fresh_terminal, Fails, Flushes
 ghost use Rattle.tw_ansi.specs.Encoding.{first_known, without_attributes, sent_batch};
 ghost use Rattle.tw_ansi.specs.Sequences.{set_attributes};
 ghost use Rattle.tw_terminal.specs.Uses.{Other, Refused as BatchRefused, Took};
-ghost use Rattle.tw_terminal.specs.declared.terminal.TerminalFault.TheVariants.{Memory as NoMemory};
+ghost use Rattle.tw_terminal.specs.declared.terminal.TerminalFault.TheVariants.{Device, Memory};
 ghost use Rattle.tw_device.specs.Deeds.{Called, Does, Said, Sized};
 ghost use Rattle.tw_device.specs.Terminal.{terminal_state};
-ghost use Rattle.tw_device.specs.declared.refused.Refused.TheVariants.{Memory};
 
 use crate::device::DeviceTerminal;
-use crate::refused::Refused;
 use std::alloc::{AllocError, Global};
 use std::io::Write;
 use std::snapshot::Snapshot;
@@ -89,6 +87,7 @@ impl<W: Write> AnsiTerminal<W> {
         ensures known { self.new.encoder ≡ self.old.encoder }
         ensures sent { OnOk result (Appends (W.contents self.old.writer)
             (W.contents self.new.writer) text.now) }
+        ensures failed { IfErr result (λ fault. fault ≡ Device) }
     {
         match self.writer.write_all(text.as_bytes()) {
             Ok(()) => Ok(()),
@@ -111,7 +110,7 @@ impl<W: Write> AnsiTerminal<W> {
     }
 
     /// Sends a batch.
-    fn put(&mut self, changes: &[Change]) -> Result<(), Refused>
+    fn put(&mut self, changes: &[Change]) -> Result<(), TerminalFault>
         ensures sent { let sent = sent_batch (batch_view changes.now) self.old.encoder in
             OnOk result (Appends (W.contents self.old.writer)
             (W.contents self.new.writer) sent.bytes) }
@@ -121,14 +120,12 @@ impl<W: Write> AnsiTerminal<W> {
             (terminal_state self.new)) }
         ensures err { OnErr result (terminal_state self.new ≡ terminal_state self.old) }
         ensures known { OnErr result (self.new.encoder ≡ self.old.encoder) }
-        ensures unsent { IfErr result (λ refused. refused ≡ Memory → self.new.writer
+        ensures unsent { IfErr result (λ fault. fault ≡ Memory → self.new.writer
             ≡ self.old.writer) }
     {
         let mut text = String::new(self.alloc);
         let encoder = self.encode(changes, &mut text)?;
-        if self.writer.write_all(text.as_bytes()).is_err() {
-            return Err(Refused::Device);
-        }
+        self.write(text.as_str())?;
         self.encoder = encoder;
         self.batches = self.batches.with_batch(changes);
         Ok(())
@@ -171,7 +168,7 @@ impl<W: Write> Terminal for AnsiTerminal<W> {
         ensures next { OnOk result (self.new.encoder
             ≡ (sent_batch (batch_view changes.now) self.old.encoder).next) }
         ensures known { OnErr result (self.new.encoder ≡ self.old.encoder) }
-        ensures unsent { IfErr result (λ fault. fault ≡ NoMemory → self.new.writer
+        ensures unsent { IfErr result (λ fault. fault ≡ Memory → self.new.writer
             ≡ self.old.writer) }
         ensures took { OnOk result (Does W.contents self.old self.new
             (Called (Took (batch_view changes.now)))) }
@@ -179,9 +176,9 @@ impl<W: Write> Terminal for AnsiTerminal<W> {
     {
         match self.put(changes) {
             Ok(()) => Ok(()),
-            Err(refused) => {
+            Err(fault) => {
                 self.failures = self.failures.saturating_add(1);
-                Err(TerminalFault::from(refused))
+                Err(fault)
             }
         }
     }

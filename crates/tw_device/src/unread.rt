@@ -7,11 +7,11 @@ ghost use Rattle.tw_ansi.specs.Resuming.{Fits};
 ghost use Rattle.tw_device.specs.Typed.{is_lone_escape};
 ghost use Rattle.tw_device.specs.Unread.{unread_in};
 
-use crate::refused::Refused;
 use std::alloc::Global;
 use std::io::{self, ErrorKind, Read};
 use std::marker::Model;
 use tw_ansi::{Progress, Scanned, scan_on};
+use tw_terminal::TerminalFault;
 
 /// How many bytes are asked for at once.
 pub(crate) const PIECE: usize = 16_384;
@@ -104,7 +104,7 @@ impl Unread {
 
     /// Reads what there is, and waits if there is nothing. Returns the number of bytes that came, or 0 at the end. Room
     /// for the bytes is found before the reader is asked, so that none is lost for want of memory.
-    pub(crate) fn read_from<R: Read>(&mut self, reader: &mut R) -> Result<usize, Refused>
+    pub(crate) fn read_from<R: Read>(&mut self, reader: &mut R) -> Result<usize, TerminalFault>
         ensures ok { IfOk result (λ count. (more : List ℕ) × (self.new ≡ self.old ++ more)
             × (length more ≡ count)
             × Consumes (R.remaining reader.old) (R.remaining reader.new) more) }
@@ -135,16 +135,20 @@ fn close_up(buffer: &mut Vec<u8>, taken: usize, filled: usize) -> usize
 }
 
 /// Returns `Memory` if a reader failed for want of memory, and `Device` for every other error.
-fn read_refusal(error: &io::Error) -> Refused {
+fn read_fault(error: &io::Error) -> TerminalFault {
     match error.kind() {
-        ErrorKind::OutOfMemory => Refused::Memory,
-        _ => Refused::Device,
+        ErrorKind::OutOfMemory => TerminalFault::Memory,
+        _ => TerminalFault::Device,
     }
 }
 
 /// Reads what there is behind the first bytes of a buffer, and returns the number of bytes that came. The buffer gets
 /// room for a piece before the reader is asked: mostly it has it, and nothing is written.
-fn read_more<R: Read>(reader: &mut R, buffer: &mut Vec<u8>, held: usize) -> Result<usize, Refused>
+fn read_more<R: Read>(
+    reader: &mut R,
+    buffer: &mut Vec<u8>,
+    held: usize,
+) -> Result<usize, TerminalFault>
     requires { held ≤ length buffer.old.items }
     ensures ok { IfOk result (λ count. (more : List ℕ) × (held + count ≤ length buffer.new.items)
         × (take (held + count) buffer.new.items ≡ take held buffer.old.items ++ more)
@@ -157,6 +161,6 @@ fn read_more<R: Read>(reader: &mut R, buffer: &mut Vec<u8>, held: usize) -> Resu
     buffer.resize(held.saturating_add(PIECE), 0)?;
     match reader.read(&mut buffer.as_mut_slice()[held..]) {
         Ok(count) => Ok(count),
-        Err(error) => Err(read_refusal(&error)),
+        Err(error) => Err(read_fault(&error)),
     }
 }

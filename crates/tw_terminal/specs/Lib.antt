@@ -1,4 +1,4 @@
-pub mod BatchLog
+pub mod Log
 pub mod Script
 pub mod TerminalState
 pub mod Uses

@@ -1,15 +1,17 @@
 //! The terminal that a line editor works on, and one that plays a script.
 //!
-//! `terminal` has the trait of terminals, the sizes of their screens and their faults; `batch_log` the batches that a
-//! terminal took, for contracts alone; `script` the terminal that plays a script of events, keeps what is rendered and
-//! fails at a named call. `laws` says that sizes and faults are compared by their values.
+//! `terminal` has the trait of terminals, the sizes of their screens and their faults; `log` lists that only contracts
+//! read, and `batch_log` the batches that a terminal took; `script` the terminal that plays a script of events, keeps
+//! what is rendered and fails at a named call. `laws` says that sizes and faults are compared by their values.
 #![tactic(auto)]
 
 mod batch_log;
 pub mod laws;
+mod log;
 mod script;
 mod terminal;
 
 pub use batch_log::BatchLog;
+pub use log::Log;
 pub use script::ScriptTerminal;
 pub use terminal::{ScreenSize, Terminal, TerminalFault};

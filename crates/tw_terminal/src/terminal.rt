@@ -5,7 +5,9 @@ ghost use Rattle.tw_surface.specs.ChangeView.{batch_view};
 ghost use Rattle.tw_input.specs.EventView.{event_view};
 ghost use Rattle.tw_terminal.specs.TerminalState.{TerminalState, Fails, size_after, Takes, IsAtEnd, Renders, RenderFails, Flushes};
 ghost use Rattle.tw_terminal.specs.Uses.{Call, Other, Refused, Took};
+ghost use Rattle.tw_terminal.specs.declared.terminal.TerminalFault.TheVariants.{Memory};
 
+use std::alloc::{AllocError, AllocFailed};
 use std::error::Error;
 use std::fmt;
 use tw_input::InputEvent;
@@ -52,6 +54,22 @@ impl fmt::Display for TerminalFault {
 }
 
 impl Error for TerminalFault {}
+
+impl From<AllocError> for TerminalFault {
+    ghost from_gives = { λ _ fault. fault ≡ Memory };
+
+    fn from(_refused: AllocError) -> TerminalFault {
+        TerminalFault::Memory
+    }
+}
+
+impl<T: Drop> From<AllocFailed<T>> for TerminalFault {
+    ghost from_gives = { λ _ fault. fault ≡ Memory };
+
+    fn from(_refused: AllocFailed<T>) -> TerminalFault {
+        TerminalFault::Memory
+    }
+}
 
 /// A terminal, as its contracts see it: its size, the events left, the batches of changes taken, how many of
 /// these are flushed, and a count of failures. A refused call adds one to the count, or leaves it at

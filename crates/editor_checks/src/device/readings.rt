@@ -38,7 +38,7 @@ pub fn read_bytes(
 ) -> Result<Vec<Ending>, anyhow::Error> {
     let mut host = trial.host(alloc)?;
     let pieces = Pieces::new(trial.bytes.as_slice(), trial.cuts);
-    let mut keys = KeyReader::with_escape(alloc, pieces, Escape::Waits);
+    let mut keys = KeyReader::new(alloc, pieces).with_escape(Escape::Waits);
     let mut terminal = AnsiTerminal::new(alloc, Recorder(writes), trial.size);
     read_typed_lines(alloc, trial, &mut keys, &mut terminal, &mut host)
 }
@@ -66,7 +66,7 @@ fn read_typed_lines(
 /// Returns the keys that the bytes of a trial are, all at once.
 pub fn keys_of(alloc: Global, trial: &Trial) -> Result<Vec<InputEvent>, anyhow::Error> {
     let whole = Whole::new(trial.bytes.as_slice());
-    let mut keys = KeyReader::with_escape(alloc, whole, Escape::Waits);
+    let mut keys = KeyReader::new(alloc, whole).with_escape(Escape::Waits);
     all_events(alloc, &mut keys)
 }
 
