@@ -7,6 +7,7 @@ ghost use Rattle.editor_checks.specs.MarkedHost.{Marked, marked_is_plain, marked
 use std::alloc::{AllocError, Global};
 use tw_lineedit::{
     CompletionCandidate, History, LineEditorHost, OutputElement, Overrides, copy_candidates,
+    plain_element,
 };
 use tw_surface::AttributeChange;
 
@@ -92,9 +93,7 @@ impl<L: History> LineEditorHost for MarkedHost<L> {
         if self.preview.is_empty() {
             return Ok(Vec::new(alloc));
         }
-        let text = String::from_str(alloc, self.preview.as_str())?;
-        let elements = vec![in alloc; OutputElement::Text(text)]?;
-        Ok(elements)
+        plain_element(alloc, self.preview.as_str())
     }
 
     fn highlight_line(
@@ -103,12 +102,10 @@ impl<L: History> LineEditorHost for MarkedHost<L> {
         line: &str,
         cursor_position: usize,
     ) -> Result<(Vec<OutputElement>, usize), AllocError> {
-        let front = String::from_str(alloc, &line[..cursor_position])?;
-        let back = String::from_str(alloc, &line[cursor_position..])?;
         let elements = vec![in alloc;
-            OutputElement::Text(front),
+            OutputElement::text(alloc, &line[..cursor_position])?,
             OutputElement::Attribute(AttributeChange::Reverse(true)),
-            OutputElement::Text(back),
+            OutputElement::text(alloc, &line[cursor_position..])?,
         ]?;
         Ok((elements, self.column.unwrap_or(cursor_position)))
     }

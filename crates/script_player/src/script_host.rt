@@ -7,6 +7,7 @@ use std::alloc::{AllocError, Global};
 use std::ops::Range;
 use tw_lineedit::{
     CompletionCandidate, History, LineEditorHost, OutputElement, Overrides, copy_candidates,
+    plain_element,
 };
 
 /// A host with a history, a preview under every line, and candidates that it answers to every request. Its
@@ -81,12 +82,10 @@ impl<L: History> LineEditorHost for ScriptHost<L> {
     }
 
     fn render_preview(&self, alloc: Global, _line: &str) -> Result<Vec<OutputElement>, AllocError> {
-        let mut elements = Vec::new(alloc);
-        if !self.preview.is_empty() {
-            let text = String::from_str(alloc, self.preview.as_str())?;
-            elements.push(OutputElement::Text(text))?;
+        if self.preview.is_empty() {
+            return Ok(Vec::new(alloc));
         }
-        Ok(elements)
+        plain_element(alloc, self.preview.as_str())
     }
 
     fn complete(

@@ -4,7 +4,7 @@ ghost use Rattle.std.specs.Prelude.{◌≡◌, [], refl};
 ghost use Rattle.test_cases.specs.ColumnHost.{Placed, column_rules, highlight_override, column_is_plain};
 
 use std::alloc::{AllocError, Global};
-use tw_lineedit::{BasicHistory, LineEditorHost, OutputElement, Overrides};
+use tw_lineedit::{BasicHistory, LineEditorHost, OutputElement, Overrides, plain_element};
 
 /// A host that puts the cursor of every line at one column.
 #[derive(Drop)]
@@ -54,9 +54,7 @@ impl LineEditorHost for ColumnHost {
         line: &str,
         _cursor_position: usize,
     ) -> Result<(Vec<OutputElement>, usize), AllocError> {
-        let text = String::from_str(alloc, line)?;
-        let elements = vec![in alloc; OutputElement::Text(text)]?;
-        Ok((elements, self.column))
+        Ok((plain_element(alloc, line)?, self.column))
     }
 
     ghost plain_answers = { column_is_plain };

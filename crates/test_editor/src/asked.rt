@@ -8,8 +8,10 @@ use std::alloc::{AllocError, Global};
 use std::cell::Cell;
 use std::test::Fail;
 use test_cases::{expect_cases, terminal_of};
-use tw_lineedit::{BasicHistory, History, LineEditor, LineEditorHost, OutputElement, Overrides};
-use tw_surface::unicode_column_width;
+use tw_lineedit::{
+    BasicHistory, History, LineEditor, LineEditorHost, OutputElement, Overrides, plain_element,
+    plain_line,
+};
 
 /// A host that counts how often it is asked for what is shown, and answers plainly.
 #[derive(Drop)]
@@ -52,8 +54,7 @@ impl LineEditorHost for AskedHost {
 
     fn render_prompt(&self, alloc: Global, prompt: &str) -> Result<Vec<OutputElement>, AllocError> {
         count_up(&self.prompts);
-        let text = String::from_str(alloc, prompt)?;
-        Ok(vec![in alloc; OutputElement::Text(text)]?)
+        plain_element(alloc, prompt)
     }
 
     fn render_preview(&self, alloc: Global, _line: &str) -> Result<Vec<OutputElement>, AllocError> {
@@ -68,9 +69,7 @@ impl LineEditorHost for AskedHost {
         cursor_position: usize,
     ) -> Result<(Vec<OutputElement>, usize), AllocError> {
         count_up(&self.lines);
-        let text = String::from_str(alloc, line)?;
-        let elements = vec![in alloc; OutputElement::Text(text)]?;
-        Ok((elements, unicode_column_width(&line[..cursor_position])))
+        plain_line(alloc, line, cursor_position)
     }
 
     ghost plain_answers = { asked_is_plain };

@@ -135,8 +135,7 @@ impl LineEditorHost for PiecesHost {
     fn render_preview(&self, alloc: Global, _line: &str) -> Result<Vec<OutputElement>, AllocError> {
         let mut elements = Vec::new(alloc);
         for piece in &self.pieces {
-            let text = String::from_str(alloc, piece.as_str())?;
-            elements.push(OutputElement::Text(text))?;
+            elements.push(OutputElement::text(alloc, piece.as_str())?)?;
         }
         Ok(elements)
     }

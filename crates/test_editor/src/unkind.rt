@@ -5,7 +5,9 @@ ghost use Rattle.test_editor.specs.StrayHost.{Stray, stray_rules, stray_override
 
 use std::alloc::{AllocError, Global};
 use tw_input::{InputEvent, KeyCode, KeyEvent};
-use tw_lineedit::{Action, BasicHistory, LineEditBuffer, LineEditorHost, OutputElement, Overrides};
+use tw_lineedit::{
+    Action, BasicHistory, LineEditBuffer, LineEditorHost, OutputElement, Overrides, plain_element,
+};
 use tw_surface::unicode_column_width;
 
 /// A host with three stray keys: F1 empties its history, F2 makes the line `abc` with the cursor after the `a`,
@@ -47,8 +49,7 @@ impl LineEditorHost for StrayHost {
         line: &str,
         cursor_position: usize,
     ) -> Result<(Vec<OutputElement>, usize), AllocError> {
-        let text = String::from_str(alloc, line)?;
-        let elements = vec![in alloc; OutputElement::Text(text)]?;
+        let elements = plain_element(alloc, line)?;
         let column = if self.is_away {
             usize::MAX
         } else {

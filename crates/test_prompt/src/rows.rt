@@ -23,7 +23,7 @@ fn elements_of(alloc: Global, marked: &str) -> Result<Vec<OutputElement>, Fail> 
         if is_bold {
             elements.append(&mut styled(alloc, bold(), part)?)?;
         } else {
-            elements.push(OutputElement::Text(String::from_str(alloc, part)?))?;
+            elements.push(OutputElement::text(alloc, part)?)?;
         }
         is_bold = !is_bold;
     }

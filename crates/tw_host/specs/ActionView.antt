@@ -1,5 +1,5 @@
 -- An action without where it lies in memory.
-use Rattle.std.specs.Prelude.{ℕ, List, string_bytes}
+use Rattle.std.specs.Prelude.{ℕ, Bool, true, false, List, string_bytes}
 use Rattle.tw_line.specs.declared.movements.Movement.{Movement}
 use Rattle.tw_host.specs.declared.actions.Action.{Action}
 use Rattle.tw_host.specs.declared.actions.Action.TheVariants as action
@@ -39,3 +39,10 @@ action_view action.Complete = Complete
 action_view action.NoAction = NoAction
 action_view action.HistoryIncSearchBackwards = HistoryIncSearchBackwards
 action_view action.HistoryIncSearchForwards = HistoryIncSearchForwards
+
+-- whether an action ends the line
+abbrev pub ends_line : ActionView → Bool
+ends_line AcceptLine = true
+ends_line Cancel = true
+ends_line EndOfFile = true
+ends_line _ = false

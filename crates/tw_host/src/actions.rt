@@ -1,5 +1,8 @@
 //! What the editor can be asked to do.
 
+ghost use Rattle.std.specs.Prelude.{◌≡◌};
+ghost use Rattle.tw_host.specs.ActionView.{action_view, ends_line};
+
 use tw_line::{Movement, RepeatCount};
 
 /// What the editor does at an event.
@@ -39,4 +42,16 @@ pub enum Action {
     HistoryIncSearchBackwards,
     /// Begins a search of the history, or goes on with it, to newer lines.
     HistoryIncSearchForwards,
+}
+
+impl Action {
+    /// Returns true for `AcceptLine`, `Cancel` and `EndOfFile`.
+    pub fn ends_line(&self) -> bool
+        ensures { result ≡ ends_line (action_view self.now) }
+    {
+        matches!(
+            self,
+            Action::AcceptLine | Action::Cancel | Action::EndOfFile,
+        )
+    }
 }

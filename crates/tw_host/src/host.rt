@@ -5,7 +5,7 @@ ghost use Rattle.std.specs.Borrow.{Lends, sem};
 ghost use Rattle.tw_input.specs.EventView.{event_view};
 ghost use Rattle.std.specs.Str.{IsCharBoundary};
 ghost use Rattle.tw_line.specs.Cut.{cut_at};
-ghost use Rattle.tw_host.specs.ElementView.{element_view};
+ghost use Rattle.tw_host.specs.ElementView.{Text, element_view};
 ghost use Rattle.tw_host.specs.CandidateView.{candidate_view};
 ghost use Rattle.tw_host.specs.HostRules.{HostRules, Resolves, candidates_for, plain_text, plain_highlight, plain_rules, shown_column, shown_elements};
 ghost use Rattle.tw_line.specs.NearestMatch.{last_line};
@@ -27,6 +27,15 @@ pub enum OutputElement {
     AllAttributes(CellAttributes),
     /// A text.
     Text(String),
+}
+
+impl OutputElement {
+    /// Returns an element of this text.
+    pub fn text(alloc: Global, text: &str) -> Result<Self, AllocError>
+        ensures { IfOk result (λ element. element_view element ≡ Text text.now) }
+    {
+        Ok(OutputElement::Text(String::from_str(alloc, text)?))
+    }
 }
 
 impl From<OutputElement> for Change {
@@ -111,8 +120,7 @@ impl Overrides {
 pub fn plain_element(alloc: Global, text: &str) -> Result<Vec<OutputElement>, AllocError>
     ensures { IfOk result (λ elements. map element_view elements.items ≡ plain_text text.now) }
 {
-    let text = String::from_str(alloc, text)?;
-    let elements = vec![in alloc; OutputElement::Text(text)]?;
+    let elements = vec![in alloc; OutputElement::text(alloc, text)?]?;
     Ok(elements)
 }
 

@@ -77,7 +77,7 @@ pub fn styled(
 {
     Ok(vec![in alloc;
         OutputElement::AllAttributes(attributes),
-        OutputElement::Text(String::from_str(alloc, text)?),
+        OutputElement::text(alloc, text)?,
         OutputElement::AllAttributes(CellAttributes::default()),
     ]?)
 }

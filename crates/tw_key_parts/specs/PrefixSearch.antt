@@ -1,35 +1,37 @@
 -- A search for lines of the history that begin as the line does.
-use Rattle.std.specs.Prelude.{ℕ, ◌+◌, ◌-◌, ◌&&◌, ◌||◌, Bool, false, not, List, length, take, codes, Option, Some, None, option_map, slice_get, if◌then◌else◌}
-use Rattle.std.specs.Option.{option_and_then}
+use Rattle.std.specs.Prelude.{ℕ, ◌+◌, ◌-◌, ◌&&◌, Bool, false, not, List, [], ◌∷◌, length, take, codes, Option, Some, None, option_map, slice_get, if◌then◌else◌}
+use Rattle.std.specs.Option.{is_some, option_and_then}
 use Rattle.tw_line.specs.Extremes.{greatest_below, least_from}
 use Rattle.tw_line.specs.NearestMatch.{line_at, next_index}
 use Rattle.tw_line.specs.declared.history.SearchDirection.TheVariants.{Forwards}
 use Rattle.tw_input.specs.declared.key.KeyCode.TheVariants.{PageUp, PageDown}
 use Rattle.tw_input.specs.declared.key.KeyEvent.{KeyEvent}
-use Rattle.tw_input.specs.EventView.{EventView}
+use Rattle.tw_input.specs.EventView.{EventView, Key}
 use Rattle.tw_input.specs.Modifiers.{none, alt}
 use Rattle.tw_line.specs.Cut.{Cut, at_end, cut_at}
 use Rattle.tw_host.specs.ActionView.{InsertChar}
 use Rattle.tw_host.specs.KeyTable.{key_press, letter}
 use Rattle.tw_hosts.specs.Words.{begins_with, is_same}
 use Rattle.tw_key_parts.specs.KeyRules.{Asked, Edited, KeyRules, KeyStep}
-use Rattle.tw_key_parts.specs.Keys.{is_key}
+use Rattle.tw_key_parts.specs.Keys.{row_with_key}
 use Rattle.tw_key_parts.specs.Recalled.{line_before_recall, older_index, recalled_kept}
+use Rattle.tw_key_parts.specs.declared.prefix_search.PrefixKey.{PrefixKey}
+use Rattle.tw_key_parts.specs.declared.prefix_search.PrefixKey.TheVariants.{Older, Newer, Oldest, Typed}
 use Rattle.tw_key_parts.specs.declared.recalled.Recalled.{Recalled}
 
--- ask for an older line, and for a newer one
-abbrev pub older_key : KeyEvent
-older_key = key_press none PageUp
+-- the keys, with the line that each shows
+abbrev pub prefix_keys : List (KeyEvent × PrefixKey)
+prefix_keys =
+    (key_press none PageUp, Older)
+    ∷ (key_press none PageDown, Newer)
+    ∷ (key_press alt (letter (codes "<")), Oldest)
+    ∷ (key_press alt (letter (codes ">")), Typed)
+    ∷ []
 
-abbrev pub newer_key : KeyEvent
-newer_key = key_press none PageDown
-
--- ask for the oldest line, and for the line before the search
-abbrev pub oldest_key : KeyEvent
-oldest_key = key_press alt (letter (codes "<"))
-
-abbrev pub typed_line_key : KeyEvent
-typed_line_key = key_press alt (letter (codes ">"))
+-- the key of an event
+abbrev pub prefix_key : EventView → Option PrefixKey
+prefix_key (Key key) = row_with_key prefix_keys key
+prefix_key _ = None
 
 -- whether there is a line, it begins with a text, and it is not the one that is shown
 abbrev pub is_other_line : List ℕ → List ℕ → Option (List ℕ) → Bool
@@ -76,23 +78,20 @@ newer_or_typed before None = shown before None
 abbrev pub newer_edit : List (List ℕ) → Option Recalled → Cut → Option (Edited (Option Recalled))
 newer_edit lines recalled cut = option_map (λ recalled. newer_or_typed recalled.before (option_and_then (newer_match lines cut) (next_index Forwards recalled.index))) recalled
 
--- whether an event is one of the keys
-abbrev pub is_prefix_key : EventView → Bool
-is_prefix_key event = is_key older_key event || (is_key newer_key event || (is_key oldest_key event || is_key typed_line_key event))
+-- what a key brings; back at the line before the search it is over
+abbrev pub edit_for_key : PrefixKey → List (List ℕ) → Option Recalled → Cut → Option (Edited (Option Recalled))
+edit_for_key Older lines recalled cut = older_edit lines recalled cut
+edit_for_key Newer lines recalled cut = newer_edit lines recalled cut
+edit_for_key Oldest lines recalled cut = oldest_edit lines recalled cut
+edit_for_key Typed lines recalled cut = option_map (λ recalled. shown recalled.before None) recalled
 
--- what an event brings, but during a search of the editor's; back at the line before the search it is over
+-- what an event brings, but during a search of the editor's
 abbrev pub prefix_edit : Option Recalled → Asked → Option (Edited (Option Recalled))
-prefix_edit recalled asked =
-    if asked.searching then None
-    else if is_key older_key asked.event then older_edit asked.lines recalled asked.cut
-    else if is_key newer_key asked.event then newer_edit asked.lines recalled asked.cut
-    else if is_key oldest_key asked.event then oldest_edit asked.lines recalled asked.cut
-    else if is_key typed_line_key asked.event then option_map (λ recalled. shown recalled.before None) recalled
-    else None
+prefix_edit recalled asked = if asked.searching then None else option_and_then (λ key. edit_for_key key asked.lines recalled asked.cut) (prefix_key asked.event)
 
 abbrev pub recalled_after : Option Recalled → Option (Option Recalled) → KeyStep → Option Recalled
 recalled_after recalled (Some new) step = new
-recalled_after recalled None step = recalled_kept (is_prefix_key step.event) step.action recalled
+recalled_after recalled None step = recalled_kept (is_some (prefix_key step.event)) step.action recalled
 
 abbrev pub prefix_key_rules : KeyRules (Option Recalled) (Option Recalled)
 prefix_key_rules = record { edits = prefix_edit; follows = recalled_after; leaves = λ recalled. None }

@@ -52,9 +52,13 @@ leads_onward m cut = nat_lt cut.cursor (destination m cut)
 
 -- ---- what is kept
 
--- the kills but for the oldest, where there are ten
+-- the most kills that are kept
+abbrev pub most_kills : ℕ
+most_kills = 10
+
+-- the kills but for the oldest, where there are the most
 abbrev pub with_room : List (List ℕ) → List (List ℕ)
-with_room kills = if nat_lt (length kills) 10 then kills else drop 1 kills
+with_room kills = if nat_lt (length kills) most_kills then kills else drop 1 kills
 
 -- the newest kill
 abbrev pub newest_kill : List (List ℕ) → List ℕ

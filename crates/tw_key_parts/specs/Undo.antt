@@ -2,12 +2,12 @@
 use Rattle.std.specs.Prelude.{ℕ, ◌&&◌, ◌||◌, Bool, true, false, not, List, [], ◌∷◌, ◌++◌, length, take, eqb, codes, Option, Some, None, if◌then◌else◌, option_map, unwrap_or}
 use Rattle.std.specs.Cmp.Lexicographic.{pointwise}
 use Rattle.std.specs.List.{slice_index_or}
-use Rattle.std.specs.Option.{is_none}
+use Rattle.std.specs.Option.{is_none, option_map_or}
 use Rattle.tw_line.specs.Extremes.{greatest_below}
 use Rattle.tw_input.specs.EventView.{EventView}
 use Rattle.tw_input.specs.Modifiers.{ctrl}
 use Rattle.tw_line.specs.Cut.{Cut, empty_cut}
-use Rattle.tw_host.specs.ActionView.{ActionView, AcceptLine, Cancel, EndOfFile, InsertChar, InsertText, Repaint, Kill, KillAndMove, HistoryPrevious, HistoryNext, Complete, NoAction, HistoryIncSearchBackwards, HistoryIncSearchForwards}
+use Rattle.tw_host.specs.ActionView.{ActionView, InsertChar, InsertText, Repaint, Kill, KillAndMove, HistoryPrevious, HistoryNext, Complete, NoAction, HistoryIncSearchBackwards, HistoryIncSearchForwards, ends_line}
 use Rattle.tw_host.specs.KeyTable.{key_press, letter}
 use Rattle.tw_key_parts.specs.KeyRules.{Asked, Edited, KeyRules, KeyStep}
 use Rattle.tw_key_parts.specs.Keys.{is_key}
@@ -48,17 +48,6 @@ abbrev pub types_character : ActionView → Bool
 types_character (InsertChar r x) = true
 types_character _ = false
 
--- an action that ends a reading
-abbrev pub is_end : ActionView → Bool
-is_end AcceptLine = true
-is_end Cancel = true
-is_end EndOfFile = true
-is_end _ = false
-
--- whether there is an action that passes a test
-abbrev pub if_any : (ActionView → Bool) → Option ActionView → Bool
-if_any test action = unwrap_or (option_map test action) false
-
 -- the lines of two cut texts are the same
 abbrev pub is_same_line : Cut → Cut → Bool
 is_same_line a b = pointwise eqb a.line b.line
@@ -66,7 +55,7 @@ is_same_line a b = pointwise eqb a.line b.line
 -- a step begins: by an edit, or where the host changed the line itself; a character that is typed right after others on
 -- a line that the host left as it was begins none
 abbrev pub begins_step : Option ActionView → Bool → Bool → Bool
-begins_step action same typing = (if_any is_edit action || not same) && not (typing && (if_any types_character action && same))
+begins_step action same typing = (option_map_or is_edit action false || not same) && not (typing && (option_map_or types_character action false && same))
 
 -- whether the last step is typing that goes on: where a character was typed it is, and where nothing is done it is as
 -- before
@@ -82,7 +71,7 @@ undo_after step u =
     let same = is_same_line step.before step.after in
     record {
       before =
-          if if_any is_end step.action then []
+          if option_map_or ends_line step.action false then []
           else if begins_step step.action same u.typing && not step.searching then u.before ++ step.before ∷ []
           else u.before;
       typing = not step.searching && (typing_after step.action u.typing && same);

@@ -7,14 +7,20 @@ ghost use Rattle.tw_key_parts.specs.KeyRules.{step_of};
 ghost use Rattle.tw_key_parts.specs.LastWords.{last_word_after};
 
 use crate::edit::Edit;
-use crate::keys::{is_key, key_of};
+use crate::keys::is_key;
 use crate::part::KeyPart;
 use crate::recalled::{Recalled, line_before_recall, older_index};
 use std::alloc::{AllocError, Global};
 use tw_host::Action;
 use tw_hosts::{end_row, last_word};
-use tw_input::{InputEvent, Modifiers};
+use tw_input::{InputEvent, KeyCode, KeyEvent, Modifiers};
 use tw_line::{History, LineEditBuffer};
+
+/// Inserts a last word.
+const LAST_WORD: KeyEvent = KeyEvent {
+    key: KeyCode::Char('.'),
+    modifiers: Modifiers::ALT,
+};
 
 /// Alt-. inserts the last word of the last line of the history. Another Alt-. right after it replaces it by the last
 /// word of the line before, and so on up to the first line. It has no action during a search.
@@ -59,7 +65,7 @@ impl KeyPart for LastWords {
         event: &InputEvent,
         line: &LineEditBuffer,
     ) -> Result<Option<Edit<Recalled>>, AllocError> {
-        if searching || !is_key(key_of(Modifiers::ALT, '.'), event) {
+        if searching || !is_key(LAST_WORD, event) {
             return Ok(None);
         }
         let Some(index) = older_index(self.word.as_ref(), history) else {
@@ -100,7 +106,7 @@ impl KeyPart for LastWords {
     {
         if note.is_some() {
             self.word = note;
-        } else if action.is_some() || !is_key(key_of(Modifiers::ALT, '.'), event) {
+        } else if action.is_some() || !is_key(LAST_WORD, event) {
             self.word = None;
         }
     }

@@ -6,7 +6,7 @@ ghost use Rattle.tw_input.specs.EventView.{event_view};
 ghost use Rattle.tw_key_parts.specs.EditView.{edit_view, lent_action};
 ghost use Rattle.tw_line.specs.Cut.{cut_at};
 ghost use Rattle.tw_key_parts.specs.KeyRules.{step_of};
-ghost use Rattle.tw_key_parts.specs.PrefixSearch.{is_prefix_key, is_prefix_match, newer_edit, newer_match, older_edit, older_match, oldest_edit, prefix_match_at, recalled_after, recalled_edit, shown};
+ghost use Rattle.tw_key_parts.specs.PrefixSearch.{is_prefix_match, newer_edit, newer_match, older_edit, older_match, oldest_edit, prefix_key, prefix_match_at, recalled_after, recalled_edit, shown};
 
 use crate::edit::Edit;
 use crate::part::KeyPart;
@@ -16,17 +16,32 @@ use tw_host::Action;
 use tw_input::{InputEvent, KeyCode, Modifiers};
 use tw_line::{History, LineEditBuffer, SearchDirection};
 
-/// Returns true for Page Up, Page Down, Alt-< and Alt->.
-pub fn is_prefix_key(event: &InputEvent) -> bool
-    ensures { result ≡ is_prefix_key (event_view event.now) }
+/// A key of the search, by the line that it shows.
+#[derive(Clone, Copy, Debug, PartialEq, Eq)]
+pub enum PrefixKey {
+    /// The next older line.
+    Older,
+    /// The next newer line.
+    Newer,
+    /// The oldest line.
+    Oldest,
+    /// The line before the search.
+    Typed,
+}
+
+/// Returns the key of the search that an event is, if it is one.
+pub fn prefix_key(event: &InputEvent) -> Option<PrefixKey>
+    ensures { result ≡ prefix_key (event_view event.now) }
 {
     let InputEvent::Key(press) = event else {
-        return false;
+        return None;
     };
-    match press.modifiers {
-        Modifiers::NONE => matches!(press.key, KeyCode::PageUp | KeyCode::PageDown),
-        Modifiers::ALT => matches!(press.key, KeyCode::Char('<' | '>')),
-        _ => false,
+    match (press.modifiers, press.key) {
+        (Modifiers::NONE, KeyCode::PageUp) => Some(PrefixKey::Older),
+        (Modifiers::NONE, KeyCode::PageDown) => Some(PrefixKey::Newer),
+        (Modifiers::ALT, KeyCode::Char('<')) => Some(PrefixKey::Oldest),
+        (Modifiers::ALT, KeyCode::Char('>')) => Some(PrefixKey::Typed),
+        _ => None,
     }
 }
 
@@ -238,22 +253,21 @@ impl KeyPart for PrefixSearch {
         event: &InputEvent,
         line: &LineEditBuffer,
     ) -> Result<Option<Edit<Option<Recalled>>>, AllocError> {
-        let InputEvent::Key(press) = event else {
-            return Ok(None);
-        };
         if searching {
             return Ok(None);
         }
+        let Some(key) = prefix_key(event) else {
+            return Ok(None);
+        };
         let recalled = self.recalled.as_ref();
-        match (press.modifiers, press.key) {
-            (Modifiers::NONE, KeyCode::PageUp) => older_edit(alloc, history, recalled, line),
-            (Modifiers::NONE, KeyCode::PageDown) => newer_edit(alloc, history, recalled, line),
-            (Modifiers::ALT, KeyCode::Char('<')) => oldest_edit(alloc, history, recalled, line),
-            (Modifiers::ALT, KeyCode::Char('>')) => match recalled {
+        match key {
+            PrefixKey::Older => older_edit(alloc, history, recalled, line),
+            PrefixKey::Newer => newer_edit(alloc, history, recalled, line),
+            PrefixKey::Oldest => oldest_edit(alloc, history, recalled, line),
+            PrefixKey::Typed => match recalled {
                 Some(recalled) => Ok(Some(shown(recalled.before.try_clone(alloc)?, None))),
                 None => Ok(None),
             },
-            _ => Ok(None),
         }
     }
 
@@ -279,7 +293,7 @@ impl KeyPart for PrefixSearch {
     {
         match note {
             Some(recalled) => self.recalled = recalled,
-            None if action.is_some() || !is_prefix_key(event) => self.recalled = None,
+            None if action.is_some() || prefix_key(event).is_none() => self.recalled = None,
             None => {}
         }
     }

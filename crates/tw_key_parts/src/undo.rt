@@ -2,9 +2,10 @@
 
 ghost use Rattle.std.specs.Prelude.{◌≡◌, ◌<◌, IfSome, length, option_map};
 ghost use Rattle.std.specs.Vec.{vec_capacity, vec_len};
+ghost use Rattle.tw_host.specs.ActionView.{action_view};
 ghost use Rattle.tw_input.specs.EventView.{event_view};
 ghost use Rattle.tw_key_parts.specs.EditView.{lent_action};
-ghost use Rattle.tw_key_parts.specs.Undo.{begins_step, if_any, is_edit, is_same_line, is_undo, last_change, types_character, no_steps, typing_after, undo_follows, undo_view};
+ghost use Rattle.tw_key_parts.specs.Undo.{begins_step, is_edit, is_same_line, is_undo, last_change, types_character, no_steps, typing_after, undo_follows, undo_view};
 ghost use Rattle.tw_key_parts.specs.KeyRules.{step_of};
 
 use crate::edit::Edit;
@@ -36,30 +37,28 @@ fn is_same_line(editor: &LineEditBuffer, other: &LineEditBuffer) -> bool
 }
 
 /// Returns true for an action that changes the line, or searches.
-fn is_edit(action: Option<&Action>) -> bool
-    ensures { result ≡ if_any is_edit (lent_action action.entry) }
+fn is_edit(action: &Action) -> bool
+    ensures { result ≡ is_edit (action_view action.now) }
 {
     matches!(
         action,
-        Some(
-            Action::InsertChar(_, _)
-                | Action::InsertText(_, _)
-                | Action::Kill(_)
-                | Action::KillAndMove(_, _)
-                | Action::HistoryPrevious
-                | Action::HistoryNext
-                | Action::Complete
-                | Action::HistoryIncSearchBackwards
-                | Action::HistoryIncSearchForwards,
-        )
+        Action::InsertChar(_, _)
+            | Action::InsertText(_, _)
+            | Action::Kill(_)
+            | Action::KillAndMove(_, _)
+            | Action::HistoryPrevious
+            | Action::HistoryNext
+            | Action::Complete
+            | Action::HistoryIncSearchBackwards
+            | Action::HistoryIncSearchForwards,
     )
 }
 
 /// Returns true for an action that types a character.
-fn types_character(action: Option<&Action>) -> bool
-    ensures { result ≡ if_any types_character (lent_action action.entry) }
+fn types_character(action: &Action) -> bool
+    ensures { result ≡ types_character (action_view action.now) }
 {
-    matches!(action, Some(Action::InsertChar(_, _)))
+    matches!(action, Action::InsertChar(_, _))
 }
 
 /// Returns true if the last step is a run of typed characters that may go on.
@@ -68,7 +67,7 @@ fn typing_after(action: Option<&Action>, typing: bool) -> bool
 {
     match action {
         None | Some(Action::NoAction | Action::Repaint) => typing,
-        Some(_) => types_character(action),
+        Some(action) => types_character(action),
     }
 }
 
@@ -76,8 +75,8 @@ fn typing_after(action: Option<&Action>, typing: bool) -> bool
 fn begins_step(action: Option<&Action>, is_same: bool, typing: bool) -> bool
     ensures { result ≡ begins_step (lent_action action.entry) is_same typing }
 {
-    let goes_on = typing && types_character(action) && is_same;
-    (is_edit(action) || !is_same) && !goes_on
+    let goes_on = typing && action.is_some_and(types_character) && is_same;
+    (action.is_some_and(is_edit) || !is_same) && !goes_on
 }
 
 impl UndoSteps {
@@ -192,7 +191,7 @@ impl KeyPart for UndoSteps {
                 let begins = begins_step(action, is_same, self.typing);
                 self.typing = typing_after(action, self.typing) && is_same;
                 self.prefixed = action.is_none() && is_key(key_of(Modifiers::CTRL, 'X'), event);
-                if let Some(Action::AcceptLine | Action::Cancel | Action::EndOfFile) = action {
+                if action.is_some_and(Action::ends_line) {
                     self.before.clear();
                 } else if begins && !searching {
                     let line = std::mem::replace(&mut self.spare, LineEditBuffer::empty(alloc));

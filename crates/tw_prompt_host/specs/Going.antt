@@ -1,11 +1,11 @@
 -- The state of the line that is read.
 use Rattle.std.specs.Prelude.{◌&&◌, ◌||◌, Bool, true, false, codes, Option, Some, None, unwrap_or}
-use Rattle.std.specs.Option.{is_none}
+use Rattle.std.specs.Option.{is_none, option_map_or}
 use Rattle.tw_input.specs.declared.key.KeyEvent.{KeyEvent}
 use Rattle.tw_input.specs.EventView.{EventView}
 use Rattle.tw_input.specs.Modifiers.{ctrl}
 use Rattle.tw_line.specs.Cut.{Cut}
-use Rattle.tw_host.specs.ActionView.{ActionView, AcceptLine, Cancel, EndOfFile}
+use Rattle.tw_host.specs.ActionView.{ActionView, ends_line}
 use Rattle.tw_host.specs.KeyTable.{key_press, letter}
 use Rattle.tw_key_parts.specs.Keys.{is_key}
 use Rattle.tw_key_parts.specs.Ring.{is_same_cut}
@@ -60,13 +60,6 @@ abbrev pub comes_back_after : Bool → Bool → Option Cut → Option Cut
 comes_back_after true false before = before
 comes_back_after given_up searches before = None
 
--- whether an action ends the line
-abbrev pub is_last : Option ActionView → Bool
-is_last (Some AcceptLine) = true
-is_last (Some Cancel) = true
-is_last (Some EndOfFile) = true
-is_last _ = false
-
 -- an event, the line before and after it, the action that follows if there is one, whether one was kept back, whether a
 -- search fails, and where it turns the menu
 pub record Came : Type 0 where
@@ -89,6 +82,6 @@ going_after lines came going =
       before_search = before_search_after going.searching searches came.before going.before_search;
       comes_back = comes_back_after (is_key give_up_key came.event) searches going.before_search;
       kept = came.back || (going.kept && is_none came.action);
-      over = is_last came.action;
+      over = option_map_or ends_line came.action false;
       menu = unwrap_or came.turn (menu_after (is_same_cut came.before came.after) came.action going.menu);
     }

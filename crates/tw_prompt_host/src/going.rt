@@ -110,10 +110,7 @@ impl Going {
     {
         self.menu.follow(turn, &before, after, action);
         self.kept = back || (self.kept && action.is_none());
-        self.over = matches!(
-            action,
-            Some(Action::AcceptLine | Action::Cancel | Action::EndOfFile)
-        );
+        self.over = action.is_some_and(Action::ends_line);
         self.fails = fails;
         let searches = searches_after(lines, action, self.searching);
         self.follow_search(event, searches, before);

@@ -51,11 +51,11 @@ pub fn styled_ranges(
     for range in ranges {
         let (before, inside) = split_before(line.len(), range.start, rest);
         let (within, after) = split_before(line.len(), range.end, inside);
-        elements.push(OutputElement::Text(String::from_str(alloc, before)?))?;
+        elements.push(OutputElement::text(alloc, before)?)?;
         elements.append(&mut styled(alloc, range.attributes, within)?)?;
         rest = after;
     }
-    elements.push(OutputElement::Text(String::from_str(alloc, rest)?))?;
+    elements.push(OutputElement::text(alloc, rest)?)?;
     Ok(elements)
 }
 

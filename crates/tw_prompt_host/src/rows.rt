@@ -154,12 +154,12 @@ fn elements_of_text(
     let mut elements = Vec::new(alloc);
     let mut rest = text;
     while let Some((piece, more)) = rest.split_once('\n') {
-        elements.push(OutputElement::Text(String::from_str(alloc, piece)?))?;
+        elements.push(OutputElement::text(alloc, piece)?)?;
         elements.append(&mut break_elements(alloc, screen, continuation, set, row, piece)?)?;
         rest = more;
     }
     row.text.push_str(rest)?;
-    elements.push(OutputElement::Text(String::from_str(alloc, rest)?))?;
+    elements.push(OutputElement::text(alloc, rest)?)?;
     Ok(elements)
 }
 

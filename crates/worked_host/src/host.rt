@@ -47,7 +47,7 @@ impl CommandHost {
             return plain_element(alloc, line);
         }
         let mut elements = styled(alloc, bold(), word)?;
-        elements.append(&mut plain_element(alloc, rest)?)?;
+        elements.push(OutputElement::text(alloc, rest)?)?;
         Ok(elements)
     }
 }
