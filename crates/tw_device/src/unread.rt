@@ -8,7 +8,7 @@ ghost use Rattle.tw_device.specs.Typed.{is_lone_escape};
 ghost use Rattle.tw_device.specs.Unread.{unread_in};
 
 use std::alloc::Global;
-use std::io::{self, ErrorKind, Read};
+use std::io::Read;
 use std::marker::Model;
 use tw_ansi::{Progress, Scanned, scan_on};
 use tw_terminal::TerminalFault;
@@ -134,14 +134,6 @@ fn close_up(buffer: &mut Vec<u8>, taken: usize, filled: usize) -> usize
     filled - taken
 }
 
-/// Returns `Memory` if a reader failed for want of memory, and `Device` for every other error.
-fn read_fault(error: &io::Error) -> TerminalFault {
-    match error.kind() {
-        ErrorKind::OutOfMemory => TerminalFault::Memory,
-        _ => TerminalFault::Device,
-    }
-}
-
 /// Reads what there is behind the first bytes of a buffer, and returns the number of bytes that came. The buffer gets
 /// room for a piece before the reader is asked: mostly it has it, and nothing is written.
 fn read_more<R: Read>(
@@ -159,8 +151,5 @@ fn read_more<R: Read>(
     ensures kept { OnErr result (Keeps (R.remaining reader.old) (R.remaining reader.new)) }
 {
     buffer.resize(held.saturating_add(PIECE), 0)?;
-    match reader.read(&mut buffer.as_mut_slice()[held..]) {
-        Ok(count) => Ok(count),
-        Err(error) => Err(read_fault(&error)),
-    }
+    Ok(reader.read(&mut buffer.as_mut_slice()[held..])?)
 }

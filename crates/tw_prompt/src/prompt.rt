@@ -7,7 +7,7 @@ use crate::keys::{AllKeys, all_keys};
 use crate::line_ends::with_line_ends;
 use crate::marks::{BEGIN, END};
 use crate::streams::{TerminalInput, TerminalOutput, open_streams};
-use std::io::{self, ErrorKind, Write};
+use std::io::Write;
 use tw_device::{Answer, DeviceTerminal, Pasted, read_line_from};
 use tw_key_parts::KeyPart;
 use tw_line::{BasicHistory, History, LentLines};
@@ -46,18 +46,10 @@ pub struct Prompt<T, H, L, K, V> {
     place: Box<Place<T>>,
 }
 
-/// Returns the editor's error for an error of a stream.
-fn refused(error: io::Error) -> Error {
-    match error.kind() {
-        ErrorKind::OutOfMemory => Error::Terminal(TerminalFault::Memory),
-        _ => Error::Terminal(TerminalFault::Device),
-    }
-}
-
 /// Reads a line of standard input, without its end, which is LF or CR LF.
 fn read_plainly(rt: HostRuntime) -> Result<Answer, Error> {
     let mut line = String::new(rt.alloc());
-    let count = rt.read_line(&mut line).map_err(refused)?;
+    let count = rt.read_line(&mut line).map_err(TerminalFault::from)?;
     if count == 0 {
         return Ok(Answer::End(line));
     }
@@ -100,12 +92,12 @@ impl<
 > Prompt<PromptTerminal, H, L, K, V> {
     /// Opens a prompt with this host, which gets the columns of the terminal.
     pub fn over(rt: HostRuntime, host: PromptHost<H, L, K, V>) -> Result<Self, Error> {
-        let arguments = Arguments::read(rt).map_err(refused)?;
+        let arguments = Arguments::read(rt).map_err(TerminalFault::from)?;
         let Some(size) = arguments.size else {
             return Prompt::at_pipe(rt, host);
         };
         let file = arguments.file.as_ref().map(|file| file.as_str());
-        let (input, output) = open_streams(rt, file).map_err(refused)?;
+        let (input, output) = open_streams(rt, file).map_err(TerminalFault::from)?;
         let events = PromptEvents::new(rt.alloc(), input, rt);
         let terminal = PatientTerminal::new(rt.alloc(), output, size);
         Prompt::at_terminal(rt, host, events, terminal, size)
@@ -204,9 +196,10 @@ impl<
                 .rt
                 .stdout()
                 .write_all(shown.as_bytes())
-                .map_err(refused),
-            Place::Terminal { terminal, .. } => Ok(terminal.send(shown.as_str())?),
+                .map_err(TerminalFault::from)?,
+            Place::Terminal { terminal, .. } => terminal.send(shown.as_str())?,
         }
+        Ok(())
     }
 
     /// Has the terminal mark nothing and tell no sizes any more, as before the prompt.

@@ -146,9 +146,7 @@ impl<W: Write> PatientTerminal<W> {
         let encoded = self.ahead.send_kept(self.alloc, self.encoder, &mut text);
         self.ahead = Ahead::new(size, None);
         self.at_start = false;
-        let Ok(encoder) = encoded else {
-            return Err(TerminalFault::Memory);
-        };
+        let encoder = encoded?;
         self.write(text.as_str())?;
         Ok(encoder)
     }
@@ -162,7 +160,7 @@ impl<W: Write> PatientTerminal<W> {
         ensures start { self.new.at_start ≡ self.old.at_start }
         ensures sent { OnOk result (Appends (W.contents self.old.writer)
             (W.contents self.new.writer) text.now) }
-        ensures refused { IfErr result (λ fault. fault ≡ Device) }
+        ensures failed { IfErr result (λ fault. fault ≡ Device) }
     {
         match self.writer.write_all(text.as_bytes()) {
             Ok(()) => Ok(()),
@@ -212,9 +210,7 @@ impl<W: Write> PatientTerminal<W> {
         self.ahead = Ahead::new(size, None);
         self.at_start = false;
         self.is_more = false;
-        let Ok(encoder) = encoded else {
-            return Err(TerminalFault::Memory);
-        };
+        let encoder = encoded?;
         self.write(text.as_str())?;
         self.encoder = encoder;
         self.ahead = Ahead::new(size, next);

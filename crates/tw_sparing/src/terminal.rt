@@ -8,7 +8,7 @@ ghost use Rattle.tw_terminal.specs.TerminalState.{fresh_terminal, Fails, Flushes
 ghost use Rattle.tw_ansi.specs.Encoding.{first_known, without_attributes};
 ghost use Rattle.tw_ansi.specs.Sequences.{set_attributes};
 ghost use Rattle.tw_terminal.specs.Uses.{Other, Refused, Took};
-ghost use Rattle.tw_terminal.specs.declared.terminal.TerminalFault.TheVariants.{Memory};
+ghost use Rattle.tw_terminal.specs.declared.terminal.TerminalFault.TheVariants.{Device, Memory};
 ghost use Rattle.tw_device.specs.Deeds.{Called, Said, Sized};
 ghost use Rattle.tw_sparing.specs.Shown.{IsFromStart, IsKnownAfter, sent_for};
 ghost use Rattle.tw_sparing.specs.SparingDeeds.{DoesSparingly};
@@ -107,6 +107,7 @@ impl<W: Write> SparingTerminal<W> {
         ensures start { self.new.at_start ≡ self.old.at_start }
         ensures sent { OnOk result (Appends (W.contents self.old.writer)
             (W.contents self.new.writer) text.now) }
+        ensures failed { IfErr result (λ fault. fault ≡ Device) }
     {
         match self.writer.write_all(text.as_bytes()) {
             Ok(()) => Ok(()),
@@ -149,12 +150,8 @@ impl<W: Write> SparingTerminal<W> {
         );
         self.shown = None;
         self.at_start = false;
-        let Ok(encoder) = encoded else {
-            return Err(TerminalFault::Memory);
-        };
-        if self.writer.write_all(text.as_bytes()).is_err() {
-            return Err(TerminalFault::Device);
-        }
+        let encoder = encoded?;
+        self.write(text.as_str())?;
         self.encoder = encoder;
         self.shown = next;
         self.at_start = ends_at_start(changes);

@@ -1,6 +1,8 @@
 //! What a line editor asks of a terminal.
 
-ghost use Rattle.std.specs.Prelude.{◌≡◌, IfOk, OnOk, OnErr, MatchOption, ⊤};
+ghost use Rattle.std.specs.Prelude.{◌≡◌, ◌↔◌, IfOk, OnOk, OnErr, MatchOption, ⊤};
+ghost use Rattle.std.specs.IoError.{error_kind};
+ghost use Rattle.std.specs.declared.io.ErrorKind.TheVariants.{OutOfMemory};
 ghost use Rattle.tw_surface.specs.ChangeView.{batch_view};
 ghost use Rattle.tw_input.specs.EventView.{event_view};
 ghost use Rattle.tw_terminal.specs.TerminalState.{TerminalState, Fails, size_after, Takes, IsAtEnd, Renders, RenderFails, Flushes};
@@ -10,6 +12,7 @@ ghost use Rattle.tw_terminal.specs.declared.terminal.TerminalFault.TheVariants.{
 use std::alloc::{AllocError, AllocFailed};
 use std::error::Error;
 use std::fmt;
+use std::io::{self, ErrorKind};
 use tw_input::InputEvent;
 use tw_surface::Change;
 
@@ -68,6 +71,18 @@ impl<T: Drop> From<AllocFailed<T>> for TerminalFault {
 
     fn from(_refused: AllocFailed<T>) -> TerminalFault {
         TerminalFault::Memory
+    }
+}
+
+/// A stream that fails for want of memory gives `Memory`, and every other error `Device`.
+impl From<io::Error> for TerminalFault {
+    ghost from_gives = { λ error fault. (fault ≡ Memory) ↔ (error_kind error ≡ OutOfMemory) };
+
+    fn from(error: io::Error) -> TerminalFault {
+        match error.kind() {
+            ErrorKind::OutOfMemory => TerminalFault::Memory,
+            _ => TerminalFault::Device,
+        }
     }
 }
 
