@@ -10,7 +10,6 @@ mod calls;
 #[cfg(test)]
 mod directives;
 #[cfg(test)]
-#[cfg(test)]
 mod faults;
 #[cfg(test)]
 mod histories;

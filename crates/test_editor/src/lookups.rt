@@ -9,6 +9,9 @@ use tw_lineedit::BasicHistory;
 
 /// Makes calls on a history that keeps the newest `limit` lines.
 fn play_newest(alloc: Global, limit: usize, calls: &str) -> Result<String, Fail> {
+    if limit == 0 {
+        return Err(Fail::from("no limit"));
+    }
     play_history(alloc, &mut RecentHistory::new(alloc, limit), calls)
 }
 

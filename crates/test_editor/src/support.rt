@@ -46,7 +46,7 @@ fn play_by(alloc: Global, case: &Case<'_>, host: &str) -> Result<String, Fail> {
         "resolving" => play_over(alloc, case, &mut ResolvingHost::new(alloc)),
         "stray" => play_over(alloc, case, &mut stray_host(alloc)),
         "column" => play_over(alloc, case, &mut ColumnHost::new(alloc, number)),
-        "kept" => play_with(alloc, case, RecentHistory::new(alloc, number)),
+        "kept" if number > 0 => play_with(alloc, case, RecentHistory::new(alloc, number)),
         "" => play_with_both(alloc, case),
         _ => Err(Fail::from("no host of this name")),
     }

@@ -27,6 +27,7 @@ mod prompt;
 mod ranges;
 #[cfg(test)]
 mod readline;
+#[cfg(test)]
 mod recent;
 #[cfg(test)]
 mod refusals;
