@@ -56,12 +56,10 @@ pub struct Session<'a> {
 
 /// Opens the history of statements.
 fn open_history(rt: HostRuntime, options: &Options) -> Result<FileHistory, AllocError> {
+    let statements = RecentHistory::unique(rt.alloc(), STATEMENTS_KEPT);
     match &options.history {
-        Some(path) => FileHistory::open_unique(rt, path.as_str(), STATEMENTS_KEPT),
-        None => {
-            let statements = RecentHistory::unique(rt.alloc(), STATEMENTS_KEPT);
-            Ok(FileHistory::in_memory(rt.alloc(), statements))
-        }
+        Some(path) => FileHistory::open(rt, path.as_str(), statements),
+        None => Ok(FileHistory::in_memory(rt.alloc(), statements)),
     }
 }
 

@@ -12,7 +12,7 @@ use Rattle.tw_surface.specs.Scenes.{typed_text}
 use Rattle.tw_surface.specs.declared.cell.CellAttributes.{CellAttributes}
 use Rattle.tw_host.specs.ElementView.{ElementView, Attribute, AllAttributes, Text, changes_of, element_change}
 use Rattle.tw_host.specs.Faithful.{text_of_elements}
-use Rattle.tw_hosts.specs.SettledRules.{PromptScreenView}
+use Rattle.tw_hosts.specs.Settling.{PromptScreenView}
 use Rattle.tw_prompt_host.specs.Rows.{RowView, next_row, row_with, row_behind, row_break, row_columns, break_elements, elements_of_rows, elements_from}
 use Rattle.tw_prompt_host.proofs.RowLemmas.{printable_is_shown}
 use Rattle.laws_prompt.specs.AnsweredRows.{RowsAnswerLine}

@@ -13,8 +13,7 @@ use Rattle.tw_surface.specs.Places.{Place, plain_piece, next_place, end_of_piece
 use Rattle.tw_surface.specs.Positions.{at_least_0}
 use Rattle.tw_surface.proofs.RowLemmas.{plain_from_printable}
 use Rattle.tw_hosts.specs.Settling.{place_after_text, needed_by_text, begins_at, line_start, rows_between, settled_place, settled_pieces, is_settled, is_measured, is_ahead}
-use Rattle.tw_hosts.proofs.SettlingPieces.{plain_needs, plain_settles}
-use Rattle.tw_hosts.proofs.SettlingLemmas.{column_leads_there, cursor_is_settled}
+use Rattle.tw_hosts.proofs.SettlingLemmas.{plain_needs, plain_settles, column_leads_there, cursor_is_settled}
 use Rattle.laws_prompt.specs.Rows.{is_row_character, before_rows, rows_of_text, rows_taken, rows_down, column_after, row_cell, row_edge, spread, columns_behind, shown_cut}
 use Rattle.laws_prompt.specs.RowColumns.{ArePrintableRows, RowColumnLeadsThere, CursorStandsInItsRow, RowColumnIsSettled}
 use Rattle.laws_prompt.proofs.RowSpreads.{printable-row, spread-plain, some-rows, before-row}

@@ -13,32 +13,34 @@ use Rattle.tw_session.specs.Outcomes.{is_over}
 use Rattle.tw_session.specs.Search.{search_left_in, search_left}
 use Rattle.tw_session.specs.Steps.{apply, apply_if}
 use Rattle.tw_key_parts.specs.KeyRules.{KeyRules}
-use Rattle.tw_prompt_host.specs.MenuState.{MenuView, Closed, Unseen, Few, Open, Shown, menu_after, open_if, stepped}
-use Rattle.tw_prompt_host.specs.MenuView.{offered}
+use Rattle.tw_prompt_host.specs.Menu.{menu_after, offered, open_if, stepped}
+use Rattle.tw_prompt_host.specs.MenuLayout.{Shown}
 use Rattle.tw_prompt_host.specs.PromptRules.{Prompted, found, prompt_rules}
+use Rattle.tw_prompt_host.specs.declared.menu.Menu.{Menu}
+use Rattle.tw_prompt_host.specs.declared.menu.Menu.TheVariants.{Closed, Unseen, Few, Open}
 use Rattle.laws_prompt.specs.MenuRuns.{IsMarked, TellsLine}
 use Rattle.laws_prompt.specs.SearchRuns.{is_searching}
 
 -- a menu tells a state while the line is not over, and there is none after that
-abbrev pub AgreesIf : Bool → MenuView → EditState → Type 0
+abbrev pub AgreesIf : Bool → Menu → EditState → Type 0
 AgreesIf true m s = m ≡ Closed
 AgreesIf false m s = TellsLine m s
 
-abbrev pub Agrees : MenuView → EditState → Type 0
+abbrev pub Agrees : Menu → EditState → Type 0
 Agrees m s = AgreesIf (is_over s.mode) m s
 
 -- so it is at the state to which something leads, where it is not refused
-abbrev pub Leads : MenuView → Result EditState Refusal → Type 0
+abbrev pub Leads : Menu → Result EditState Refusal → Type 0
 Leads m (Ok s) = Agrees m s
 Leads m (Err r) = Unit {0}
 
 -- no menu, and no completion
-closed : (over : Bool) (m : MenuView) (s : EditState) → m ≡ Closed → s.cycle ≡ None → AgreesIf over m s
+closed : (over : Bool) (m : Menu) (s : EditState) → m ≡ Closed → s.cycle ≡ None → AgreesIf over m s
 closed true m s e none = e
 closed false m s e none = subst (λ menu. TellsLine menu s) (sym e) none
 
 -- a line that is not over
-pub going_on : (s : EditState) (m : MenuView) → is_over s.mode ≡ false → TellsLine m s → Agrees m s
+pub going_on : (s : EditState) (m : Menu) → is_over s.mode ≡ false → TellsLine m s → Agrees m s
 going_on s m going tells = subst (λ over. AgreesIf over m s) (sym going) tells
 
 -- a search that is left leads to a line that is not over; without a search all stays
@@ -57,7 +59,7 @@ left_still_in s Accepted e = refl
 left_still_in s (Searching style direction matching) e = cc
 
 -- a candidate comes in
-put : (s : EditState) (m : MenuView) (cycle : Option CycleView) (cut : Option Cut) → is_over s.mode ≡ false
+put : (s : EditState) (m : Menu) (cycle : Option CycleView) (cut : Option Cut) → is_over s.mode ≡ false
     → ((c : Cut) → cut ≡ Some c → TellsLine m (record s { cut = c; cycle = cycle })) → Leads m (with_completion s cycle cut)
 put s m cycle None going tells = tt
 put s m cycle (Some cut) going tells = going_on (record s { cut = cut; cycle = cycle }) m going (tells cut refl)
@@ -84,7 +86,7 @@ one_taken (x ∷ l) (suc i) c e = one_taken l i c e
 -- ---- a completion to which the menu turns
 
 -- a menu that a completion of a line leads to
-abbrev pub IsTurned : MenuView → Cut → Type 0
+abbrev pub IsTurned : Menu → Cut → Type 0
 IsTurned (Open m) line = (1 < length m.candidates) × (m.chosen < length m.candidates) × (line ≡ m.line)
 IsTurned (Few candidates) line = nat_lt 1 (length candidates) ≡ false
 IsTurned _ line = ⊥
@@ -109,7 +111,7 @@ module _ (s : EditState) (going : is_over s.mode ≡ false) where
       few_of candidates (slice_get candidates 0) none
       (ap (λ many. if many then Some (record { candidates = candidates; index = 0; original = s.cut }) else None) single)
 
-  turned_from : (menu : MenuView) (other : List CandidateView) → s.cycle ≡ None → IsTurned menu s.cut → Leads menu (completed_from (offered menu other) s None)
+  turned_from : (menu : Menu) (other : List CandidateView) → s.cycle ≡ None → IsTurned menu s.cut → Leads menu (completed_from (offered menu other) s None)
   turned_from Closed other none turned = absurd turned
   turned_from Unseen other none turned = absurd turned
   turned_from (Few candidates) other none single = few candidates none single
@@ -117,7 +119,7 @@ module _ (s : EditState) (going : is_over s.mode ≡ false) where
       let there = slice_get-get_or m.candidates m.chosen (record { start = 0; end = 0; text = [] }) turned.1 in
       marked m _ turned.0 there turned.2
 
-  pub completes : (menu : MenuView) (other : Cut → List CandidateView) → is_searching s.mode ≡ false → s.cycle ≡ None → IsTurned menu s.cut
+  pub completes : (menu : Menu) (other : Cut → List CandidateView) → is_searching s.mode ≡ false → s.cycle ≡ None → IsTurned menu s.cut
       → Leads menu (completion_step (λ cut. offered menu (other cut)) (search_left s))
   unfolding completion_step
   completes menu other still none turned =
@@ -136,12 +138,12 @@ step_stays true m there more = by (m.chosen == 0) refl
 -- ---- other actions
 
 -- what a menu tells is the same of the same line, and without one it tells nothing of the line
-module _ {V S K : Type 0} (keys : KeyRules S K) (rules : HostRules V) (v : Prompted V S) (m : MenuView) (s : EditState) (after : Cut) (same : Bool)
+module _ {V S K : Type 0} (keys : KeyRules S K) (rules : HostRules V) (v : Prompted V S) (m : Menu) (s : EditState) (after : Cut) (same : Bool)
     (stays : (x : Shown) → m ≡ Open x → same ≡ true → after ≡ s.cut) (going : is_over s.mode ≡ false) (tells : TellsLine m s) where
   abbrev left : EditState
   left = record s { cut = after }
 
-  kept_open : (n : MenuView) (b : Bool) → m ≡ n → same ≡ b → TellsLine n s → TellsLine (open_if b n) left
+  kept_open : (n : Menu) (b : Bool) → m ≡ n → same ≡ b → TellsLine n s → TellsLine (open_if b n) left
   kept_open Closed true is e tells = tells
   kept_open Closed false is e tells = tells
   kept_open Unseen true is e tells = tt

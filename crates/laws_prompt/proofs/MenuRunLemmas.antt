@@ -25,11 +25,13 @@ use Rattle.tw_key_parts.specs.KeyRules.{Edited, KeyRules}
 use Rattle.tw_key_parts.specs.Keys.{is_key}
 use Rattle.tw_key_parts.specs.Ring.{is_same_cut}
 use Rattle.tw_key_parts.specs.SearchWatch.{has_lines, searches_after}
-use Rattle.tw_prompt_host.specs.Going.{GoingView, going_at_rest, before_search_after, comes_back_after, give_up_key, event_line}
-use Rattle.tw_prompt_host.specs.MenuState.{MenuView, Closed, Unseen, Few, Open, Shown, is_completing, menu_after, menu_begun, open_if, step_of_menu, stepped, turned}
-use Rattle.tw_prompt_host.specs.MenuView.{asks, is_still, turn_line, turn_unless}
-use Rattle.tw_prompt_host.specs.PromptRules.{Answer, Prompted, answered, completing, edit_at, fails_by_key, found, is_kept, judged, opens_row, prompt_rules, turn_at}
-use Rattle.tw_prompt_host.specs.Validation.{is_accepting}
+use Rattle.tw_prompt_host.specs.Going.{going_at_rest, before_search_after, comes_back_after, give_up_key, event_line}
+use Rattle.tw_prompt_host.specs.Menu.{asks, is_completing, is_still, menu_after, menu_begun, open_if, step_of_menu, stepped, turn_line, turn_unless, turned}
+use Rattle.tw_prompt_host.specs.MenuLayout.{Shown}
+use Rattle.tw_prompt_host.specs.PromptRules.{Answer, Prompted, answered, completing, edit_at, fails_by_key, found, is_kept, judged, opens_row, prompt_rules, turn_at, is_accepting}
+use Rattle.tw_prompt_host.specs.declared.going.Going.{Going}
+use Rattle.tw_prompt_host.specs.declared.menu.Menu.{Menu}
+use Rattle.tw_prompt_host.specs.declared.menu.Menu.TheVariants.{Closed, Unseen, Few, Open}
 use Rattle.tw_prompt_host.proofs.SearchLemmas.{said_all}
 use Rattle.laws_prompt.specs.MenuRuns.{ClosesAfterLines, IsMenuTold, TellsLine, TellsLines}
 use Rattle.laws_prompt.specs.SearchRuns.{is_searching}
@@ -37,11 +39,11 @@ use Rattle.laws_prompt.proofs.ActionLemmas as action
 use Rattle.laws_prompt.proofs.MenuLemmas.{Agrees, AgreesIf, Leads, applied_if, completes, step_stays}
 
 -- what agrees tells while the line is not over, and is closed where it is
-told : (over : Bool) (m : MenuView) (s : EditState) → AgreesIf over m s → over ≡ false → TellsLine m s
+told : (over : Bool) (m : Menu) (s : EditState) → AgreesIf over m s → over ≡ false → TellsLine m s
 told true m s agrees e = absurd (false≢true (sym e))
 told false m s agrees e = agrees
 
-closed : (over : Bool) (m : MenuView) (s : EditState) → AgreesIf over m s → over ≡ true → m ≡ Closed
+closed : (over : Bool) (m : Menu) (s : EditState) → AgreesIf over m s → over ≡ true → m ≡ Closed
 closed true m s agrees e = agrees
 closed false m s agrees e = absurd (false≢true e)
 
@@ -57,7 +59,7 @@ both_right false b e = absurd (false≢true e)
 -- ---- what goes on beside a menu
 
 -- while a menu is open the editor does not search, and no line comes back
-abbrev IsQuiet : MenuView → Bool → Option Cut → Type 0
+abbrev IsQuiet : Menu → Bool → Option Cut → Type 0
 IsQuiet (Open m) searching back = (searching ≡ false) × (back ≡ None)
 IsQuiet _ searching back = ⊤
 
@@ -73,11 +75,11 @@ none_before : (searched searches : Bool) (line : Cut) (before : Option Cut) → 
 none_before searched false line before e = refl
 none_before searched true line before e = absurd (false≢true (sym e))
 
-module _ (gave lines same : Bool) (g : GoingView) (m : MenuView) (still : g.searching ≡ false → g.before_search ≡ None) (quiet : IsQuiet m g.searching g.comes_back) where
-  abbrev Quiet : MenuView → Option ActionView → Type 0
+module _ (gave lines same : Bool) (g : Going) (m : Menu) (still : g.searching ≡ false → g.before_search ≡ None) (quiet : IsQuiet m g.searching g.comes_back) where
+  abbrev Quiet : Menu → Option ActionView → Type 0
   Quiet menu a = IsQuiet menu (searches_after lines a g.searching) (comes_back_after gave (searches_after lines a g.searching) g.before_search)
 
-  stays_quiet : (n : MenuView) (b : Bool) → m ≡ n → IsQuiet n g.searching g.comes_back → IsQuiet (open_if b n) g.searching (comes_back_after gave g.searching g.before_search)
+  stays_quiet : (n : Menu) (b : Bool) → m ≡ n → IsQuiet n g.searching g.comes_back → IsQuiet (open_if b n) g.searching (comes_back_after gave g.searching g.before_search)
   stays_quiet Closed true is quiet = tt
   stays_quiet Closed false is quiet = tt
   stays_quiet Unseen true is quiet = tt
@@ -127,7 +129,7 @@ is_complete (Some HistoryIncSearchBackwards) e = cc
 is_complete (Some HistoryIncSearchForwards) e = cc
 
 -- where one begins there is none
-none_begun : (m : MenuView) (s : EditState) → is_still m ≡ true → TellsLine m s → s.cycle ≡ None
+none_begun : (m : Menu) (s : EditState) → is_still m ≡ true → TellsLine m s → s.cycle ≡ None
 none_begun Closed s e tells = tells
 none_begun Unseen s e tells = cc
 none_begun (Few candidates) s e tells = tells
@@ -193,12 +195,12 @@ module _ {V S K : Type 0} (keys : KeyRules S K) (rules : HostRules V) where
         )
 
     -- a menu to which the event turns
-    abbrev IsReady : MenuView → Type 0
+    abbrev IsReady : Menu → Type 0
     IsReady (Open m) = (1 < length m.candidates) × (m.chosen < length m.candidates)
     IsReady (Few candidates) = (nat_lt 1 (length candidates) ≡ false) × (action_of e ≡ Some Complete)
     IsReady _ = ⊥
 
-    record Turns (turn : MenuView) : Type 0 where
+    record Turns (turn : Menu) : Type 0 where
       none : s.cycle ≡ None
       still : v.going.searching ≡ false
       ready : IsReady turn
@@ -210,7 +212,7 @@ module _ {V S K : Type 0} (keys : KeyRules S K) (rules : HostRules V) where
         (two, omega (arith, two))
     begun_ready candidates false single complete = (single, complete)
 
-    begun_turns : (m turn : MenuView) (candidates : List CandidateView) (b : Bool) → v.going.menu ≡ m → asks v.going.searching m (action_of e) ≡ b
+    begun_turns : (m turn : Menu) (candidates : List CandidateView) (b : Bool) → v.going.menu ≡ m → asks v.going.searching m (action_of e) ≡ b
         → option_map (λ candidates. menu_begun candidates cut) (if b then Some candidates else None) ≡ Some turn → Turns turn
     begun_turns m turn candidates false is asked e = cc
     begun_turns m turn candidates true is asked begun =
@@ -223,7 +225,7 @@ module _ {V S K : Type 0} (keys : KeyRules S K) (rules : HostRules V) where
           ready = subst IsReady same ready;
         }
 
-    stepped_turns : (x : Shown) (turn : MenuView) → v.going.menu ≡ Open x → (back : Bool) → Some (Open (stepped back x)) ≡ Some turn → Turns turn
+    stepped_turns : (x : Shown) (turn : Menu) → v.going.menu ≡ Open x → (back : Bool) → Some (Open (stepped back x)) ≡ Some turn → Turns turn
     stepped_turns x turn is back leads =
         let marked = subst (λ m. TellsLine m s) is told_line in
         let quiet = subst (λ m. IsQuiet m v.going.searching v.going.comes_back) is fits.quiet in
@@ -231,12 +233,12 @@ module _ {V S K : Type 0} (keys : KeyRules S K) (rules : HostRules V) where
         let to : Open (stepped back x) ≡ turn = cc in
         subst Turns to (record { none = marked.none; still = quiet.0; ready = (marked.more, step_stays back x low marked.more) })
 
-    open_turns : (x : Shown) (back completing : Bool) (turn : MenuView) → v.going.menu ≡ Open x → step_of_menu back completing x ≡ Some turn → Turns turn
+    open_turns : (x : Shown) (back completing : Bool) (turn : Menu) → v.going.menu ≡ Open x → step_of_menu back completing x ≡ Some turn → Turns turn
     open_turns x true completing turn is leads = stepped_turns x turn is true leads
     open_turns x false true turn is leads = stepped_turns x turn is false leads
     open_turns x false false turn is leads = absurd (let none : None ≡ Some turn = leads in cc)
 
-    turns_at : (m turn : MenuView) → v.going.menu ≡ m
+    turns_at : (m turn : Menu) → v.going.menu ≡ m
         → turned (option_map (λ candidates. menu_begun candidates cut) (if asks v.going.searching m (action_of e) then Some (found keys rules v cut) else None)) e (action_of e) m ≡ Some turn
         → Turns turn
     turns_at Closed turn is begun = begun_turns Closed turn _ _ is refl begun
@@ -244,7 +246,7 @@ module _ {V S K : Type 0} (keys : KeyRules S K) (rules : HostRules V) where
     turns_at (Few candidates) turn is begun = begun_turns (Few candidates) turn _ _ is refl begun
     turns_at (Open x) turn is leads = open_turns x _ _ turn is leads
 
-    turned_to : (turn : MenuView) (rcut : Cut) (value : V) (kept fails : Bool) → Turns turn
+    turned_to : (turn : Menu) (rcut : Cut) (value : V) (kept fails : Bool) → Turns turn
         → let answer = answered None (completing None (turn_line (Some turn))) rcut in
         Led (judged keys rules v e cut value answer (Some turn) (kept && is_accepting (or_default answer.action e)) fails)
     unfolding apply
@@ -270,7 +272,7 @@ module _ {V S K : Type 0} (keys : KeyRules S K) (rules : HostRules V) where
               (refl, none_back gave false v.going.before_search (fits.still turns.still)),
         )
 
-    led_by : (own : Option ActionView) (rcut : Cut) (value : V) (edit : Option (Edited (Option K))) (turn : Option MenuView) (kept fails : Bool) → turn_at keys rules v e cut ≡ turn
+    led_by : (own : Option ActionView) (rcut : Cut) (value : V) (edit : Option (Edited (Option K))) (turn : Option Menu) (kept fails : Bool) → turn_at keys rules v e cut ≡ turn
         → let answer = answered own (completing edit (turn_line turn)) rcut in
         Led (judged keys rules v e cut value answer (turn_unless own edit turn) (kept && is_accepting (or_default answer.action e)) fails)
     led_by (Some a) rcut value edit turn kept fails is =
@@ -365,9 +367,9 @@ module _ {V S K : Type 0} (keys : KeyRules S K) (rules : HostRules V) where
   at_first : (initial : Option (List ℕ)) (f : Frame (Prompted V S)) → f.value.going ≡ going_at_rest → IsRight (progress_of (start initial f))
   at_first initial f rest = record {
     menu = subst (λ g. TellsLine g.menu (start initial f).state) (sym rest) refl;
-    watch = subst (λ (g : GoingView). g.searching ≡ false) (sym rest) refl;
-    still = λ e. subst (λ (g : GoingView). g.before_search ≡ None) (sym rest) refl;
-    quiet = subst (λ (g : GoingView). IsQuiet g.menu g.searching g.comes_back) (sym rest) tt;
+    watch = subst (λ (g : Going). g.searching ≡ false) (sym rest) refl;
+    still = λ e. subst (λ (g : Going). g.before_search ≡ None) (sym rest) refl;
+    quiet = subst (λ (g : Going). IsQuiet g.menu g.searching g.comes_back) (sym rest) tt;
   }
 
   pub tells_lines : TellsLines keys rules

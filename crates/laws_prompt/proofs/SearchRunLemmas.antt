@@ -14,8 +14,7 @@ use Rattle.tw_lineedit.specs.Reading.{start}
 use Rattle.tw_lineedit.specs.Stations.{Station, station_at, stations_after, stations_unless, stations_by, stations_from}
 use Rattle.tw_key_parts.specs.KeyRules.{KeyRules}
 use Rattle.tw_key_parts.specs.SearchWatch.{has_lines, searches_after}
-use Rattle.tw_prompt_host.specs.PromptLaws.{IsWatch, PromptHasWatch}
-use Rattle.tw_prompt_host.specs.PromptRules.{prompt_rules}
+use Rattle.tw_prompt_host.specs.PromptRules.{IsWatch, PromptHasWatch, prompt_rules}
 use Rattle.laws_prompt.specs.SearchRuns.{is_searching, takes_search, IsTold, TellsRuns, TellsReadings, IsOffBehindLines, KnowsSearches, LeavesSearches}
 use Rattle.laws_prompt.proofs.ActionLemmas.{leads_as_told}
 

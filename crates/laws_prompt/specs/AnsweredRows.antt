@@ -6,9 +6,8 @@ use Rattle.tw_line.specs.Cut.{Cut}
 use Rattle.tw_host.specs.ElementView.{changes_of}
 use Rattle.tw_host.specs.Faithful.{text_of_elements}
 use Rattle.tw_host.specs.HostRules.{Highlight, plain_text}
-use Rattle.tw_hosts.specs.SettledRules.{PromptScreenView}
-use Rattle.tw_prompt_host.specs.RowLaws.{ArePrintablePrompts}
-use Rattle.tw_prompt_host.specs.Rows.{highlight_in_rows}
+use Rattle.tw_hosts.specs.Settling.{PromptScreenView}
+use Rattle.tw_prompt_host.specs.Rows.{ArePrintablePrompts, highlight_in_rows}
 use Rattle.laws_prompt.specs.Rows.{is_row_character, shown_cut}
 use Rattle.laws_prompt.specs.RowCells.{AnswersShownLine}
 

@@ -11,8 +11,10 @@ use Rattle.tw_lineedit.specs.Run.{run_of}
 use Rattle.tw_lineedit.specs.Stations.{Station, stations_of}
 use Rattle.tw_key_parts.specs.KeyRules.{KeyRules}
 use Rattle.tw_prompt_host.specs.Going.{going_at_rest}
-use Rattle.tw_prompt_host.specs.MenuState.{MenuView, Closed, Unseen, Few, Open, Shown}
+use Rattle.tw_prompt_host.specs.MenuLayout.{Shown}
 use Rattle.tw_prompt_host.specs.PromptRules.{Prompted, prompt_rules}
+use Rattle.tw_prompt_host.specs.declared.menu.Menu.{Menu}
+use Rattle.tw_prompt_host.specs.declared.menu.Menu.TheVariants.{Closed, Unseen, Few, Open}
 
 -- the line is the one before the completion with the candidate that is marked, one of two or more; the editor goes
 -- through none by itself
@@ -24,7 +26,7 @@ pub record IsMarked (m : Shown) (s : EditState) : Type 0 where
   pub line : completed_by candidate m.line ≡ Some s.cut
 
 -- what a menu tells of the editor's state
-abbrev pub TellsLine : MenuView → EditState → Type 0
+abbrev pub TellsLine : Menu → EditState → Type 0
 TellsLine Closed s = s.cycle ≡ None
 TellsLine Unseen s = ⊤
 TellsLine (Few candidates) s = s.cycle ≡ None

@@ -9,8 +9,7 @@ use Rattle.tw_lineedit.specs.Reading.{start}
 use Rattle.tw_lineedit.specs.Run.{run_of}
 use Rattle.tw_lineedit.specs.Stations.{Station, stations_of}
 use Rattle.tw_key_parts.specs.KeyRules.{KeyRules}
-use Rattle.tw_prompt_host.specs.PromptLaws.{IsWatch}
-use Rattle.tw_prompt_host.specs.PromptRules.{Prompted, prompt_rules}
+use Rattle.tw_prompt_host.specs.PromptRules.{IsWatch, Prompted, prompt_rules}
 
 -- the mode is that of a search
 abbrev pub is_searching : ModeView → Bool

@@ -7,7 +7,7 @@ use Rattle.std.specs.List.{common_prefix_len, fold, list_all, starts_with}
 use Rattle.std.specs.Str.{IsCharBoundary}
 use Rattle.tw_line.proofs.BoundaryLemmas.{is_boundary-from, is_boundary-false}
 use Rattle.tw_line.proofs.ExtremesLemmas.{greatest_below-is}
-use Rattle.tw_completion_parts.specs.Beginnings.{is_shared, shared_len}
+use Rattle.tw_completion_parts.specs.SharedCandidate.{is_shared, shared_len}
 
 -- a text begins with as much of another one as they share, and with no more
 begins : (text other : List ℕ) (n : ℕ) → n ≤ length text → starts_with eqb other (take n text) ≡ leb n (common_prefix_len eqb text other)

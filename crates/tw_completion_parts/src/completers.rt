@@ -1,17 +1,42 @@
-//! Completers by the context.
+//! Where in a line a completion is asked for, and what completes there.
 
 ghost use Rattle.std.specs.Prelude.{◌≡◌, IfOk, IsCharBoundary, map, option_map};
 ghost use Rattle.tw_host.specs.CandidateView.{candidate_view};
 ghost use Rattle.tw_line.specs.Cut.{cut_at};
-ghost use Rattle.tw_completion_parts.specs.Completers.{candidates_by, context_candidates, completer_for, completer_view, context_completer_view};
-ghost use Rattle.tw_completion_parts.specs.FileNames.{listing_view};
+ghost use Rattle.tw_completion_parts.specs.Completers.{candidates_by, context_candidates, completer_for, is_in};
 
-use crate::contexts::Context;
 use crate::file_names::{Listing, complete_file_name};
 use crate::word_lists::{WordList, complete_listed};
 use std::alloc::{AllocError, Global};
 use tw_host::CompletionCandidate;
-use tw_hosts::end_row;
+use tw_hosts::{end_row, split_first_word};
+
+/// Where in a line a completion is asked for: words are parted by spaces, and whitespace before the first one does not
+/// count.
+#[derive(Debug, Drop)]
+pub enum Context {
+    /// Everywhere.
+    Anywhere,
+    /// In the first word, where what stands of it before the cursor begins with this text.
+    FirstWord(String),
+    /// After this first word and a space.
+    ArgumentOf(String),
+}
+
+impl Context {
+    /// Returns true if the text before a cursor is in the context.
+    #[tactic(auto, using(std::proofs::lemmas::Grind::common_steps, std::proofs::lemmas::Str::Pattern::starts_text))]
+    pub fn has(&self, before: &str) -> bool
+        ensures { result ≡ is_in self.now before.now }
+    {
+        let (word, after) = split_first_word(before.trim_start());
+        match self {
+            Context::Anywhere => true,
+            Context::FirstWord(prefix) => after.is_empty() && word.starts_with(prefix.as_str()),
+            Context::ArgumentOf(command) => !after.is_empty() && word == command.as_str(),
+        }
+    }
+}
 
 /// What completes a word.
 #[derive(Debug, Drop)]
@@ -35,15 +60,10 @@ pub struct ContextCompleter {
 
 /// Returns the completer of the first context that has the text before a cursor.
 fn completer_for<'rows>(rows: &'rows [ContextCompleter], before: &str) -> Option<&'rows Completer>
-    ensures { option_map (λ completer. completer_view completer.now) result
-        ≡ completer_for (map context_completer_view rows.now) before.now }
+    ensures { option_map (λ completer. completer.now) result ≡ completer_for rows.now before.now }
 {
-    for row in rows {
-        if row.context.has(before) {
-            return Some(&row.completer);
-        }
-    }
-    None
+    let row = rows.iter().find(|row| row.context.has(before))?;
+    Some(&row.completer)
 }
 
 /// Returns the candidates of a completer.
@@ -56,8 +76,7 @@ fn candidates_by(
 ) -> Result<Vec<CompletionCandidate>, AllocError>
     requires { IsCharBoundary line.now cursor }
     ensures { IfOk result (λ candidates. map candidate_view candidates.items
-        ≡ candidates_by (map listing_view listings.now) (completer_view completer.now)
-        (cut_at line.now cursor)) }
+        ≡ candidates_by listings.now completer.now (cut_at line.now cursor)) }
 {
     match completer {
         Completer::Words(list) => complete_listed(alloc, list, line, cursor),
@@ -77,8 +96,7 @@ pub fn complete_in_context(
 ) -> Result<Option<Vec<CompletionCandidate>>, AllocError>
     requires { IsCharBoundary line.now cursor }
     ensures { IfOk result (λ found. option_map (λ it. map candidate_view it.items) found
-        ≡ context_candidates (map context_completer_view rows.now) (map listing_view listings.now)
-        (cut_at line.now cursor)) }
+        ≡ context_candidates rows.now listings.now (cut_at line.now cursor)) }
 {
     match completer_for(rows, end_row(&line[..cursor])) {
         Some(completer) => Ok(Some(candidates_by(alloc, listings, completer, line, cursor)?)),

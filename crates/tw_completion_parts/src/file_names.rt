@@ -3,12 +3,11 @@
 ghost use Rattle.std.specs.Prelude.{◌≡◌, IfOk, IsCharBoundary, map, string_bytes};
 ghost use Rattle.tw_host.specs.CandidateView.{candidate_view};
 ghost use Rattle.tw_line.specs.Cut.{cut_at};
-ghost use Rattle.tw_completion_parts.specs.FileNames.{entries_in, entry_text, entry_view, file_candidates, listing_view, names_from};
+ghost use Rattle.tw_completion_parts.specs.FileNames.{entries_in, entry_text, file_candidates, names_from};
 
-use crate::word_lists::split_begun;
 use std::alloc::{AllocError, Global};
 use tw_host::CompletionCandidate;
-use tw_hosts::{end_row, last_word};
+use tw_hosts::{end_row, last_word, split_begun};
 
 /// A name in a directory.
 #[derive(Debug, Drop)]
@@ -34,7 +33,7 @@ fn entries_in<'listings>(
     listings: &'listings [Listing],
     directory: &str,
 ) -> &'listings [DirectoryEntry]
-    ensures { map entry_view result.now ≡ entries_in (map listing_view listings.now) directory.now }
+    ensures { result.now ≡ entries_in listings.now directory.now }
 {
     for listing in listings {
         if listing.directory.as_str() == directory {
@@ -46,7 +45,7 @@ fn entries_in<'listings>(
 
 /// Returns the name of an entry, with a slash after that of a directory.
 fn entry_text(alloc: Global, entry: &DirectoryEntry) -> Result<String, AllocError>
-    ensures { IfOk result (λ text. string_bytes text ≡ entry_text (entry_view entry.now)) }
+    ensures { IfOk result (λ text. string_bytes text ≡ entry_text entry.now) }
 {
     let mut text = String::from_str(alloc, entry.name.as_str())?;
     if entry.is_directory {
@@ -64,7 +63,7 @@ fn names_from(
     text: &str,
 ) -> Result<Vec<CompletionCandidate>, AllocError>
     ensures { IfOk result (λ candidates. map candidate_view candidates.items
-        ≡ names_from (map entry_view entries.now) cursor text.now) }
+        ≡ names_from entries.now cursor text.now) }
 {
     let start = cursor.saturating_sub(text.len());
     let mut candidates = Vec::new(alloc);
@@ -90,7 +89,7 @@ pub fn complete_file_name(
 ) -> Result<Vec<CompletionCandidate>, AllocError>
     requires { IsCharBoundary line.now cursor }
     ensures { IfOk result (λ candidates. map candidate_view candidates.items
-        ≡ file_candidates (map listing_view listings.now) (cut_at line.now cursor)) }
+        ≡ file_candidates listings.now (cut_at line.now cursor)) }
 {
     let (directory, text) = split_begun("/", last_word(end_row(&line[..cursor])));
     names_from(alloc, entries_in(listings, directory), cursor, text)

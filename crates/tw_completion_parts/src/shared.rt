@@ -1,12 +1,38 @@
-//! What several candidates share, as a candidate of its own.
+//! What all of several words begin with, and a candidate of what several candidates share.
 
-ghost use Rattle.std.specs.Prelude.{◌≡◌, IfOk, map, option_map, string_bytes};
+ghost use Rattle.std.specs.Prelude.{◌≡◌, IfOk, eqb, map, option_map, string_bytes};
+ghost use Rattle.std.specs.List.{common_prefix_len};
 ghost use Rattle.tw_host.specs.CandidateView.{candidate_view};
-ghost use Rattle.tw_completion_parts.specs.SharedCandidate.{beginning_first, candidate_texts, is_one_part, shared_candidate};
+ghost use Rattle.tw_completion_parts.specs.SharedCandidate.{beginning_first, candidate_texts, common_beginning, is_one_part, shared_candidate};
 
-use crate::beginnings::common_beginning;
 use std::alloc::{AllocError, Global};
 use tw_host::CompletionCandidate;
+
+/// Returns how many bytes two texts have in common before they differ.
+fn shared_len(text: &[u8], other: &[u8]) -> usize
+    ensures { result ≡ common_prefix_len eqb text.now other.now }
+{
+    let mut len = 0;
+    while len < text.len() && len < other.len() && text[len] == other[len] {
+        len += 1;
+    }
+    len
+}
+
+/// Returns the longest text in whole characters with which each of the words begins. It is empty if there is no word.
+pub fn common_beginning<'words>(words: &'words [String]) -> &'words str
+    ensures { result.now ≡ common_beginning (map string_bytes words.now) }
+{
+    let Some((first, others)) = words.split_first() else {
+        return "";
+    };
+    let text = first.as_str();
+    let bytes = text.as_bytes();
+    let end = others.iter().fold(bytes.len(), |end: usize, other| {
+        end.min(shared_len(bytes, other.as_bytes()))
+    });
+    &text[..text.floor_char_boundary(end)]
+}
 
 /// Returns the texts of candidates.
 fn candidate_texts(

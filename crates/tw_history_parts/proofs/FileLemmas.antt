@@ -1,56 +1,39 @@
 -- Lines that are written, and what is read of them.
-use Rattle.std.proofs.Common.{◌≡◌, ℕ, suc, ◌+◌, ◌-◌, ◌<◌, Bool, true, false, List, [], ◌∷◌, ◌++◌, length, get_or, take, Option, Some, None, refl, sym, ap, subst, ◌∙◌, append_assoc, append-nil, length-append, arith, ⊎_elim, inl, inr}
-use Rattle.std.specs.Prelude.{◌==◌, ◌⊎◌}
-use Rattle.std.specs.List.{cons_option, filter_map}
-use Rattle.std.specs.Option.{option_to_list}
+use Rattle.std.proofs.Common.{◌≡◌, ◌≢◌, ℕ, suc, ◌+◌, ◌-◌, ◌<◌, Bool, true, false, List, [], ◌∷◌, ◌++◌, length, get_or, take, Some, refl, sym, ap, subst, ◌∙◌, append_assoc, append-nil, length-append, arith, ⊎_elim, inl, inr}
+use Rattle.std.specs.Prelude.{◌⊎◌}
+use Rattle.std.specs.List.{filter_map}
 use Rattle.std.specs.Str.{is_utf8}
 use Rattle.std.proofs.lemmas.Bool.{eqb-true, not-false}
 use Rattle.std.proofs.lemmas.Bool.Decides.{nat_tests}
 use Rattle.std.proofs.lemmas.List.{take_all, take_more}
 use Rattle.std.proofs.lemmas.Option.{slice_get-get_or}
 use Rattle.std.proofs.lemmas.List.Elements.{All-head, All-tail, filter_map-append}
-use Rattle.tw_history_parts.specs.FileLaws.{BeginningIsRead, DamageStaysAlone, ResumedAreRead, WrittenAreRead}
-use Rattle.tw_history_parts.specs.HistoryFile.{ended, escaped, escaped_byte, is_cut_off, line_of, lines_in, unescaped, whole_lines, with_byte, with_byte_in_front, written_line, written_lines}
+use Rattle.tw_history_parts.specs.HistoryFile.{BeginningIsRead, DamageStaysAlone, ResumedAreRead, WrittenAreRead, ended, escaped, escaped_byte, is_cut_off, line_of, lines_in, unescaped, whole_lines, with_byte_in_front, written_line, written_lines}
 use Rattle.tw_history_parts.proofs.ReadingLemmas.{lines_cut}
-
--- ---- one byte
-
--- what a byte is written as stays in the line that follows
-module _ (b : ℕ) (text : List ℕ) where
-  ends_as : (line : List ℕ) (lines : List (List ℕ)) → whole_lines text ≡ line ∷ lines → whole_lines (escaped_byte b ++ text) ≡ (escaped_byte b ++ line) ∷ lines
-  ends_as line lines e = grind (arith, nat_tests)
-
-  never_ends : whole_lines text ≡ [] → whole_lines (escaped_byte b ++ text) ≡ []
-  never_ends e = grind (arith, nat_tests)
-
-  stands_for : unescaped (escaped_byte b ++ text) ≡ with_byte (Some b) (unescaped text)
-  stands_for = grind (arith, nat_tests)
 
 -- ---- one line
 
 ended_escaped : (line rest : List ℕ) → whole_lines (escaped line ++ (10 ∷ rest)) ≡ escaped line ∷ whole_lines rest
 ended_escaped [] rest = refl
 ended_escaped (b ∷ line) rest =
-    ap whole_lines (append_assoc (escaped_byte b) (escaped line) (10 ∷ rest))
-    ∙ ends_as b (escaped line ++ (10 ∷ rest)) (escaped line) (whole_lines rest) (ended_escaped line rest)
+    let joined = append_assoc (escaped_byte b) (escaped line) (10 ∷ rest) in
+    let more = ended_escaped line rest in
+    grind (arith, nat_tests)
 
 unended_escaped : (line : List ℕ) → whole_lines (escaped line) ≡ []
 unended_escaped [] = refl
-unended_escaped (b ∷ line) = never_ends b (escaped line) (unended_escaped line)
+unended_escaped (b ∷ line) = let more = unended_escaped line in grind (arith, nat_tests)
 
 unescaped_escaped : (line : List ℕ) → unescaped (escaped line) ≡ Some line
 unescaped_escaped [] = refl
-unescaped_escaped (b ∷ line) = stands_for b (escaped line) ∙ ap (with_byte (Some b)) (unescaped_escaped line)
-
-line_of_escaped : (line : List ℕ) → is_utf8 line ≡ true → line_of (escaped line) ≡ Some line
-line_of_escaped line text = rw (unescaped_escaped line, text) refl
+unescaped_escaped (b ∷ line) = let more = unescaped_escaped line in grind (arith, nat_tests)
 
 -- a written line, and those after it
 lines_in-cons : (line rest : List ℕ) → is_utf8 line ≡ true → lines_in (written_line line ++ rest) ≡ line ∷ lines_in rest
 lines_in-cons line rest text =
     ap lines_in (append_assoc (escaped line) (10 ∷ []) rest)
     ∙ ap (filter_map line_of) (ended_escaped line rest)
-    ∙ ap (λ found. cons_option found (lines_in rest)) (line_of_escaped line text)
+    ∙ rw (unescaped_escaped line, text) refl
 
 pub written_are_read : WrittenAreRead
 written_are_read [] texts = refl
@@ -119,34 +102,30 @@ beginning_is_read (line ∷ lines) bytes more texts e =
 -- ---- damage
 
 -- some line is whole where a line feed ends the bytes
-abbrev HasWhole : List ℕ → Type 0
-HasWhole bytes = (line : List ℕ) × (lines : List (List ℕ)) × (whole_lines bytes ≡ line ∷ lines)
+some_whole : (before : List ℕ) → whole_lines (before ++ 10 ∷ []) ≢ []
+some_whole [] e = grind arith
+some_whole (b ∷ before) e =
+    let rest = some_whole before in
+    let front = none_in_front b (whole_lines (before ++ 10 ∷ [])) in
+    grind (arith, nat_tests)
 
-some_whole-cons : (b : ℕ) (bytes : List ℕ) (x : Bool) → (b == 10) ≡ x → HasWhole bytes → HasWhole (b ∷ bytes)
-some_whole-cons b bytes true is some = ([], whole_lines bytes, rw is refl)
-some_whole-cons b bytes false is some = (b ∷ some.0, some.1, rw (is, some.2) refl)
-
-some_whole : (before : List ℕ) → HasWhole (before ++ 10 ∷ [])
-some_whole [] = ([], [], refl)
-some_whole (b ∷ before) = some_whole-cons b (before ++ 10 ∷ []) (b == 10) refl (some_whole before)
+front-append : (b : ℕ) (lines more : List (List ℕ)) → lines ≢ [] → with_byte_in_front b (lines ++ more) ≡ with_byte_in_front b lines ++ more
+front-append b [] more some = absurd (some refl)
+front-append b (line ∷ lines) more some = refl
 
 -- what stands after a line feed is read by itself
 behind_feed : (before rest : List ℕ) → whole_lines ((before ++ 10 ∷ []) ++ rest) ≡ whole_lines (before ++ 10 ∷ []) ++ whole_lines rest
 behind_feed [] rest = refl
 behind_feed (b ∷ before) rest =
     let whole = behind_feed before rest in
-    let some = (some_whole before).2 in
+    let front = front-append b (whole_lines (before ++ 10 ∷ [])) (whole_lines rest) (some_whole before) in
     grind (arith, nat_tests)
-
-found-list : (found : Option (List ℕ)) (lines : List (List ℕ)) → cons_option found lines ≡ option_to_list found ++ lines
-found-list None lines = refl
-found-list (Some line) lines = refl
 
 pub damage_stays_alone : DamageStaysAlone
 damage_stays_alone before text after free =
     ap (filter_map line_of) (behind_feed before (text ++ (10 ∷ after)))
     ∙ filter_map-append line_of (whole_lines (before ++ 10 ∷ [])) (whole_lines (text ++ (10 ∷ after)))
-    ∙ ap (λ l. lines_in (before ++ 10 ∷ []) ++ l) (lines_cut (text ++ (10 ∷ after)) text after (free, refl) ∙ found-list (line_of text) (lines_in after))
+    ∙ ap (λ l. lines_in (before ++ 10 ∷ []) ++ l) (lines_cut (text ++ (10 ∷ after)) text after (free, refl))
 
 -- ---- what is written after a file
 

@@ -1,4 +1,3 @@
-pub mod EscapeLemmas
 pub mod FileLemmas
 pub mod ReadingLemmas
 pub mod RecentLemmas

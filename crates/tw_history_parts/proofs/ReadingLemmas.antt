@@ -1,11 +1,24 @@
--- Going through the lines of a file.
-use Rattle.std.proofs.Common.{◌≡◌, ℕ, suc, ◌+◌, List, [], ◌∷◌, ◌++◌, eqb, false, Some, None, refl, sym, ap, subst, ◌∙◌, arith, Contains}
+-- Going through the lines of a file, and what escapes stand for.
+use Rattle.std.proofs.Common.{◌≡◌, ℕ, suc, ◌+◌, List, [], ◌∷◌, ◌++◌, eqb, false, Some, None, refl, sym, ap, subst, ◌∙◌, arith, Contains, Option, append_assoc}
 use Rattle.std.proofs.lemmas.Bool.{eqb-true, false_from_ne_true}
 use Rattle.std.proofs.lemmas.List.Sums.{sum_by-cons}
-use Rattle.std.specs.Prelude.{if◌then◌else◌, is_none, Err, Ok, OnErr, Result}
+use Rattle.std.specs.Prelude.{if◌then◌else◌, is_none, Err, Ok, OnErr, Result, option_map, IsUtf8}
 use Rattle.std.specs.List.{count_by, filter_map, cons_option}
-use Rattle.tw_history_parts.specs.HistoryFile.{IsCutAtFeed, line_of, lines_in, lost_lines, whole_lines}
-use Rattle.tw_history_parts.specs.Reading.{AddsAll, AddsSome}
+use Rattle.tw_history_parts.specs.HistoryFile.{IsCutAtFeed, line_of, lines_in, lost_lines, whole_lines, if_text, with_byte, AddsAll, AddsSome}
+use Rattle.std.specs.Str.{is_utf8}
+use Rattle.std.proofs.lemmas.Str.{IsUtf8-from_is_utf8, is_utf8-from_IsUtf8}
+
+-- a byte that is added to those before, or stands in front of those after it
+pub pushed : (bytes : List ℕ) (b : ℕ) (rest : Option (List ℕ)) → option_map (λ more. (bytes ++ b ∷ []) ++ more) rest ≡ option_map (λ more. bytes ++ more) (with_byte (Some b) rest)
+pushed bytes b None = refl
+pushed bytes b (Some more) = ap (λ all. Some all) (append_assoc bytes (b ∷ []) more)
+
+-- bytes that are a text, and others
+pub text_is : (bytes : List ℕ) → IsUtf8 bytes → if_text bytes ≡ Some bytes
+text_is bytes text = rw (is_utf8-from_IsUtf8 bytes text) refl
+
+pub no_text : (bytes : List ℕ) → ¬ (IsUtf8 bytes) → if_text bytes ≡ None
+no_text bytes other = rw (false_from_ne_true (is_utf8 bytes) (λ e. other (IsUtf8-from_is_utf8 bytes e))) refl
 
 -- the first byte of a text is no line feed, nor does the rest contain one
 first_no_feed : (b : ℕ) (text : List ℕ) → ¬ (Contains (b ∷ text) 10) → eqb b 10 ≡ false

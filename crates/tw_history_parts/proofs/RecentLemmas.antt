@@ -1,48 +1,38 @@
 -- The newest lines, and lines that stand once.
-use Rattle.std.proofs.Common.{◌≡◌, ◌≢◌, ℕ, ◌+◌, ◌-◌, ◌<◌, ◌≤◌, zero, suc, Bool, true, List, [], ◌∷◌, ◌++◌, length, map, drop, refl, sym, ap, subst, true≢false, ◌∙◌, Some, String, string_bytes, arith, length-append}
+use Rattle.std.proofs.Common.{◌≡◌, ◌≢◌, ℕ, ◌+◌, ◌-◌, ◌<◌, Bool, true, List, [], ◌∷◌, ◌++◌, length, map, drop, refl, sym, ap, subst, true≢false, ◌∙◌, Some, String, string_bytes, arith, length-append}
 use Rattle.std.specs.Prelude.{not, Err, Ok, OnErr, OnOk, Result}
 use Rattle.std.specs.declared.alloc.Global.{Global}
-use Rattle.std.specs.List.{AllPairs, filter, items_where_true, slice_get}
+use Rattle.std.specs.List.{AllPairs, filter, items_where_true}
 use Rattle.std.specs.List.Retain.{ReturnsInTurn}
 use lib.Pointwise.{bytes_decides}
 use Rattle.std.proofs.lemmas.Bool.Decides.{nat_tests}
-use Rattle.std.proofs.lemmas.List.{get_or-drop, length-drop}
+use Rattle.std.proofs.lemmas.List.{get_or-drop, get_or_push, length-drop}
+use Rattle.std.proofs.lemmas.Option.{slice_get-get_or}
 use Rattle.std.proofs.lemmas.List.Elements.{filter_passes}
 use Rattle.std.proofs.lemmas.List.Kept.{AllPairs-filter}
 use Rattle.std.proofs.lemmas.List.Quantifiers.{all_pairs_push}
 use Rattle.tw_line.specs.NearestMatch.{last_line}
-use Rattle.tw_history_parts.specs.Reading.{AddsAll}
+use Rattle.tw_history_parts.specs.HistoryFile.{AddsAll}
 use Rattle.tw_history_parts.specs.Recent.{AreUnique, RecentLines, StaysUnique, is_another, newest, older_lines, with_recent}
 
 -- ---- the newest lines
 
-at_end : (xs : List (List ℕ)) (x : List ℕ) → slice_get (xs ++ x ∷ []) (length xs) ≡ Some x
-at_end [] x = refl
-at_end (y ∷ xs) x = at_end xs x
-
-last_line-push : (xs : List (List ℕ)) (x : List ℕ) → last_line (xs ++ x ∷ []) ≡ Some x
-last_line-push xs x =
-    let last : length (xs ++ x ∷ []) - 1 ≡ length xs = omega (arith, length-append xs (x ∷ [])) in
-    ap (slice_get (xs ++ x ∷ [])) last ∙ at_end xs x
-
-last_line-drop : (k : ℕ) (xs : List (List ℕ)) (x : List ℕ) → k ≤ length xs → last_line (drop k (xs ++ x ∷ [])) ≡ Some x
-last_line-drop zero xs x low = last_line-push xs x
-last_line-drop (suc k) [] x low = absurd (omega (arith, low))
-last_line-drop (suc k) (y ∷ xs) x low = last_line-drop k xs x (omega (arith, low))
-
 -- a line that is put after others is the last of the newest
 pub last_line_newest : (limit : ℕ) (xs : List (List ℕ)) (x : List ℕ) → 0 < limit → last_line (newest limit (xs ++ x ∷ [])) ≡ Some x
-last_line_newest limit xs x some = last_line-drop _ xs x (omega (arith, some, length-append xs (x ∷ [])))
+last_line_newest limit xs x some =
+    let all = xs ++ x ∷ [] in
+    let gone = length all - limit in
+    let last = length (drop gone all) - 1 in
+    let whole = length-append xs (x ∷ []) in
+    let left = length-drop gone all in
+    slice_get-get_or (drop gone all) last x (omega (arith, some, whole, left))
+    ∙ ap (λ line. Some line) (get_or-drop gone all last x ∙ get_or_push xs x x (gone + last) (omega (arith, some, whole, left)))
 
 -- ---- lines that stand once
 
 AllPairs-drop : {X : Type 0} (R : X → X → Type 0) (k : ℕ) (xs : List X) → AllPairs R xs → AllPairs R (drop k xs)
 AllPairs-drop R k xs pairs i j d lt within =
     rw (get_or-drop k xs i d, get_or-drop k xs j d) (pairs (k + i) (k + j) d (omega arith) (omega (arith, length-drop k xs)))
-
--- a line that is another one
-other_differs : (line older : List ℕ) → is_another line older ≡ true → older ≢ line
-other_differs line older other same = true≢false (sym other ∙ ap not ((bytes_decides older line).1 same))
 
 -- what `retain` keeps by a test that what it captures does not change
 pub kept_by : {X P : Type 0} (R : P → X → Bool → P → Type 0) (test : X → Bool) (f : P) → ((x : X) (b : Bool) (g : P) → R f x b g → (g ≡ f) × (b ≡ test x))
@@ -65,7 +55,7 @@ added_unique : (limit : ℕ) (lines : List (List ℕ)) (line : List ℕ) → Are
 added_unique limit lines line unique =
     AllPairs-drop (λ older newer. older ≢ newer) _ _
     (all_pairs_push (λ older newer. older ≢ newer) _ line (AllPairs-filter (λ older newer. older ≢ newer) (is_another line) lines unique)
-    (λ k d lt. other_differs line _ (filter_passes (is_another line) lines k d lt)))
+    (λ k d lt same. true≢false (sym (filter_passes (is_another line) lines k d lt) ∙ ap not ((bytes_decides _ line).1 same))))
 
 pub stays_unique : StaysUnique
 stays_unique h line is_unique unique = let added = added_unique h.limit h.lines line unique in grind (arith, nat_tests)

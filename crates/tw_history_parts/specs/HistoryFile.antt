@@ -1,6 +1,7 @@
--- How the lines of a history stand in a file.
-use Rattle.std.specs.Prelude.{◌≡◌, ◌==◌, ◌+◌, ◌-◌, ℕ, Bool, true, false, not, if◌then◌else◌, List, [], ◌∷◌, ◌++◌, length, Option, Some, None, is_none, slice_get, Contains}
-use Rattle.std.specs.List.{count_by, filter_map, flat_map}
+-- How the lines of a history stand in a file, and adding them to a history.
+use Rattle.std.specs.Prelude.{◌≡◌, ◌==◌, ◌+◌, ◌-◌, ℕ, Bool, true, false, not, if◌then◌else◌, List, [], ◌∷◌, ◌++◌, length, Option, Some, None, is_none, slice_get, Contains, ◌<◌, ◌≤◌, take}
+use Rattle.std.specs.List.{count_by, filter_map, flat_map, All, cons_option}
+use Rattle.std.specs.Option.{option_and_then, option_map_or}
 use Rattle.std.specs.Str.{is_utf8}
 use Rattle.tw_history_parts.specs.declared.file.Unread.{Unread}
 use Rattle.tw_history_parts.specs.declared.file.Unread.TheVariants.{Lines}
@@ -44,13 +45,9 @@ unescaped text = unescaped_behind false text
 abbrev pub if_text : List ℕ → Option (List ℕ)
 if_text bytes = if is_utf8 bytes then Some bytes else None
 
-abbrev pub text_in : Option (List ℕ) → Option (List ℕ)
-text_in None = None
-text_in (Some bytes) = if_text bytes
-
 -- the line that a text of a file is, if it is one
 abbrev pub line_of : List ℕ → Option (List ℕ)
-line_of text = text_in (unescaped text)
+line_of text = option_and_then if_text (unescaped text)
 
 -- a byte in front of the first line
 abbrev pub with_byte_in_front : ℕ → List (List ℕ) → List (List ℕ)
@@ -66,14 +63,9 @@ whole_lines (b ∷ bytes) = if b == 10 then [] ∷ whole_lines bytes else with_b
 abbrev pub lines_in : List ℕ → List (List ℕ)
 lines_in bytes = filter_map line_of (whole_lines bytes)
 
--- whether the last byte, if there is one, is no line feed
-abbrev pub is_no_feed : Option ℕ → Bool
-is_no_feed None = false
-is_no_feed (Some b) = not (b == 10)
-
--- whether the last text of a file is cut off: no line feed ends it
+-- whether the last text of a file is cut off: its last byte, if there is one, is no line feed
 abbrev pub is_cut_off : List ℕ → Bool
-is_cut_off bytes = is_no_feed (slice_get bytes (length bytes - 1))
+is_cut_off bytes = option_map_or (λ b. not (b == 10)) (slice_get bytes (length bytes - 1)) false
 
 -- the file with a line feed after a text that is cut off
 abbrev pub ended : List ℕ → List ℕ
@@ -94,3 +86,39 @@ unread_lines bytes = if lost_in bytes == 0 then None else Some (Lines (lost_in b
 -- bytes that are cut at their first line feed
 abbrev pub IsCutAtFeed : List ℕ → List ℕ → List ℕ → Type 0
 IsCutAtFeed bytes line after = (¬ (Contains line 10)) × (bytes ≡ line ++ (10 ∷ after))
+
+-- the history with these lines added, by what it says of one
+abbrev pub AddsAll : {L : Type 0} → (L → List ℕ → L → Type 0) → List (List ℕ) → L → L → Type 0
+AddsAll gives [] old new = new ≡ old
+AddsAll {L} gives (line ∷ lines) old new = (between : L) × gives old line between × AddsAll gives lines between new
+
+-- and with some of them, the first ones
+abbrev pub AddsSome : {L : Type 0} → (L → List (List ℕ)) → (L → List ℕ → L → Type 0) → List (List ℕ) → L → L → Type 0
+AddsSome {L} lines_of gives lines old new =
+    (first : List (List ℕ)) × (others : List (List ℕ)) × (lines ≡ first ++ others)
+    × ((between : L) × AddsAll gives first old between × (lines_of new ≡ lines_of between))
+
+-- lines that are texts
+abbrev pub AreTexts : List (List ℕ) → Type 0
+AreTexts lines = All (λ line. is_utf8 line ≡ true) lines
+
+-- Lines that are written are read as they were.
+abbrev pub WrittenAreRead : Type 0
+WrittenAreRead = (lines : List (List ℕ)) → AreTexts lines → lines_in (written_lines lines) ≡ lines
+
+-- Of a beginning of what was written those lines are read that are whole in it: with one more it would be longer.
+abbrev pub BeginningIsRead : Type 0
+BeginningIsRead = (lines : List (List ℕ)) (bytes more : List ℕ) → AreTexts lines → written_lines lines ≡ bytes ++ more
+    → (count : ℕ) × (lines_in bytes ≡ take count lines)
+    × (length (written_lines (take count lines)) ≤ length bytes)
+    × (count < length lines → length bytes < length (written_lines (take (count + 1) lines)))
+
+-- A text between two line feeds is read by itself, whatever stands in it, and takes nothing from the others.
+abbrev pub DamageStaysAlone : Type 0
+DamageStaysAlone = (before text after : List ℕ) → ¬ (Contains text 10)
+    → lines_in ((before ++ 10 ∷ []) ++ (text ++ (10 ∷ after)))
+    ≡ lines_in (before ++ 10 ∷ []) ++ cons_option (line_of text) (lines_in after)
+
+-- Lines that are written after a file, whatever it has, are read after its own.
+abbrev pub ResumedAreRead : Type 0
+ResumedAreRead = (bytes : List ℕ) (lines : List (List ℕ)) → AreTexts lines → lines_in (ended bytes ++ written_lines lines) ≡ lines_in (ended bytes) ++ lines

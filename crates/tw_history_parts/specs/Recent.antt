@@ -1,5 +1,5 @@
 -- A history that keeps the newest lines, and no line twice if it is unique.
-use Rattle.std.specs.Prelude.{◌≡◌, ◌≢◌, ◌==◌, ◌-◌, ℕ, Bool, true, eqb, not, List, [], ◌∷◌, ◌++◌, drop, length, map, String, string_bytes, if◌then◌else◌}
+use Rattle.std.specs.Prelude.{◌≡◌, ◌≢◌, ◌-◌, ℕ, Bool, true, eqb, not, List, [], ◌∷◌, ◌++◌, drop, length, map, max, String, string_bytes, if◌then◌else◌}
 use Rattle.std.specs.declared.alloc.Global.{Global}
 use Rattle.std.specs.Cmp.Lexicographic.{pointwise}
 use Rattle.std.specs.List.{AllPairs, filter}
@@ -16,12 +16,9 @@ pub record RecentLines : Type 0 where
 abbrev pub lines_of_entries : List (String Global) → List (List ℕ)
 lines_of_entries entries = map string_bytes entries
 
-abbrev pub at_least_one : ℕ → ℕ
-at_least_one count = if count == 0 then 1 else count
-
--- the history of no lines
+-- the history of no lines, of which one at least is kept
 abbrev pub no_recent_lines : ℕ → Bool → RecentLines
-no_recent_lines limit is_unique = record { lines = []; limit = at_least_one limit; is_unique = is_unique }
+no_recent_lines limit is_unique = record { lines = []; limit = max 1 limit; is_unique = is_unique }
 
 -- whether an older line is another one
 abbrev pub is_another : List ℕ → List ℕ → Bool

@@ -1,6 +1,6 @@
 //! Laws of this crate's definitions: each function does nothing, and its contract is the law.
 
-ghost use Rattle.tw_history_parts.specs.FileLaws.{BeginningIsRead, DamageStaysAlone, ResumedAreRead, WrittenAreRead};
+ghost use Rattle.tw_history_parts.specs.HistoryFile.{BeginningIsRead, DamageStaysAlone, ResumedAreRead, WrittenAreRead};
 ghost use Rattle.tw_history_parts.specs.Recent.{StaysUnique};
 
 /// Lines that are written are read as they were. If writing was cut off, the lines before it are read, and nothing

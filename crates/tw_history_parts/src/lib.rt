@@ -1,13 +1,12 @@
 //! Histories beside those of `tw_line`: `FileHistory` is kept in a file, and `RecentHistory` keeps the newest lines,
 //! no line twice if it is unique.
 //!
-//! `lines` has how a line stands in a file, `file` what reads such lines, `written` a history whose lines are written,
+//! `file` has how a line stands in a file, and what reads such lines, `written` a history whose lines are written,
 //! and `laws` what follows from the definitions.
 #![tactic(auto)]
 
 mod file;
 pub mod laws;
-mod lines;
 mod recent;
 mod written;
 

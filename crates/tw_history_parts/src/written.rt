@@ -2,13 +2,10 @@
 
 ghost use Rattle.std.specs.Prelude.{◌≡◌, ◌∷◌, [], IfOk, None, OnErr, OnOk, Some, false, is_none, true};
 ghost use Rattle.tw_line.specs.NearestMatch.{last_line};
-ghost use Rattle.tw_history_parts.specs.HistoryFile.{is_cut_off, lines_in, unread_lines};
-ghost use Rattle.tw_history_parts.specs.Reading.{AddsAll};
-ghost use Rattle.tw_history_parts.specs.Recent.{at_least_one};
+ghost use Rattle.tw_history_parts.specs.HistoryFile.{is_cut_off, lines_in, unread_lines, AddsAll};
 ghost use Rattle.tw_history_parts.specs.Written.{IsPut, Writes};
 
-use crate::file::{Unread, is_cut_off, read_lines};
-use crate::lines::written_line;
+use crate::file::{Unread, is_cut_off, read_lines, written_line};
 use crate::recent::RecentHistory;
 use std::alloc::{AllocError, Global};
 use std::borrow::CowStr;
@@ -73,11 +70,10 @@ impl<L: History, W: Write + Drop> WrittenHistory<L, W> {
         let mut history = history;
         let lost = read_lines(alloc, bytes, &mut history)?;
         let mut resumed = WrittenHistory {
-            history,
             has_failed: writer.is_none(),
             writer,
             unread: (lost > 0).then_some(Unread::Lines(lost)),
-            alloc,
+            ..WrittenHistory::in_memory(alloc, history)
         };
         if is_cut_off(bytes) {
             resumed.put(b"\n");
@@ -122,33 +118,14 @@ impl<L: History, W: Write + Drop> WrittenHistory<L, W> {
 }
 
 impl WrittenHistory<RecentHistory, File> {
-    /// Opens the history in a file, of which the newest `limit` lines are kept in memory, at least one. The file is
-    /// made if there is none, and is never cut: each line that is added is written at its end.
+    /// Opens the history in a file, whose lines are added to those in memory. The file is made if there is none, and is
+    /// never cut: each line that is added is written at its end.
     ///
     /// A file that can't be read is not written either. `unread` returns what was not read, and `take_failure` whether
     /// lines can't be written: they are kept in memory then.
-    pub fn open(rt: HostRuntime, path: &str, limit: usize) -> Result<Self, AllocError>
-        ensures kept { IfOk result (λ it. (it.history.limit ≡ at_least_one limit)
-            × (it.history.is_unique ≡ false)) }
-        ensures failed { IfOk result (λ it. it.has_failed ≡ is_none it.writer) }
-    {
-        FileHistory::open_over(rt, path, RecentHistory::new(rt.alloc(), limit))
-    }
-
-    /// Opens the history in a file as `open` does, but keeps no line twice in memory: one that is added again goes to
-    /// the end.
-    pub fn open_unique(rt: HostRuntime, path: &str, limit: usize) -> Result<Self, AllocError>
-        ensures kept { IfOk result (λ it. (it.history.limit ≡ at_least_one limit)
-            × (it.history.is_unique ≡ true)) }
-        ensures failed { IfOk result (λ it. it.has_failed ≡ is_none it.writer) }
-    {
-        FileHistory::open_over(rt, path, RecentHistory::unique(rt.alloc(), limit))
-    }
-
-    /// Opens the history in a file, over lines in memory.
-    fn open_over(rt: HostRuntime, path: &str, lines: RecentHistory) -> Result<Self, AllocError>
-        ensures limit { IfOk result (λ it. it.history.limit ≡ lines.limit) }
-        ensures unique { IfOk result (λ it. it.history.is_unique ≡ lines.is_unique) }
+    pub fn open(rt: HostRuntime, path: &str, lines: RecentHistory) -> Result<Self, AllocError>
+        ensures kept { IfOk result (λ it. (it.history.limit ≡ lines.limit)
+            × (it.history.is_unique ≡ lines.is_unique)) }
         ensures failed { IfOk result (λ it. it.has_failed ≡ is_none it.writer) }
     {
         let bytes = match fs::read(&rt, path) {
@@ -156,11 +133,9 @@ impl WrittenHistory<RecentHistory, File> {
             Err(fault) if fault.kind() == ErrorKind::NotFound => Vec::new(rt.alloc()),
             Err(_) => {
                 return Ok(WrittenHistory {
-                    history: lines,
-                    writer: None,
                     has_failed: true,
                     unread: Some(Unread::File),
-                    alloc: rt.alloc(),
+                    ..WrittenHistory::in_memory(rt.alloc(), lines)
                 });
             }
         };

@@ -1,5 +1,3 @@
 pub mod WordLemmas
 pub mod TokenLemmas
-pub mod FaithfulLemmas
 pub mod SettlingLemmas
-pub mod SettlingPieces

@@ -1,47 +1,86 @@
--- Where texts lead, and the column that leads to a cell by division.
-use Rattle.std.proofs.Common.{◌≡◌, ℕ, zero, suc, ℤ, pos, ◌+ℤ◌, ◌≤ℤ◌, ◌+◌, ◌*◌, ◌/◌, ◌%◌, ◌<◌, ◌≤◌, Bool, true, false, List, [], ◌∷◌, length, replicate, take, drop, refl, ap, sym, ◌∙◌, arith}
-use Rattle.std.specs.List.{list_all}
+-- The pieces of a text that no terminal parts, where they lead, and the column that leads to a cell by division.
+use Rattle.std.proofs.Common.{◌≡◌, ℕ, zero, suc, ℤ, pos, ◌+ℤ◌, ◌≤ℤ◌, ◌+◌, ◌*◌, ◌/◌, ◌%◌, ◌<◌, ◌≤◌, Bool, true, false, List, [], ◌∷◌, length, replicate, take, drop, refl, ap, sym, ◌∙◌, arith, not, min, ◌++◌, map, flat_map}
+use Rattle.std.specs.List.{list_all, fold, sum_by}
 use Rattle.std.proofs.lemmas.Bool.{and_parts, leb-true, le-leb, and_from}
 use Rattle.std.proofs.lemmas.Bool.Decides.{nat_tests}
 use Rattle.std.proofs.lemmas.Int.{ints}
-use Rattle.std.proofs.lemmas.List.{take-append-drop}
+use Rattle.std.proofs.lemmas.List.{take-append-drop, nil_from_length}
 use Rattle.std.proofs.lemmas.List.Folds.{list_all-append}
 use Rattle.std.proofs.Math.Nat.{mul-add-mod_self_right, mul-add-div_right, mod-eq_of_lt, div-eq_of_lt, add-mul, div-add-mod'}
 use Rattle.tw_surface.specs.declared.measure.Extent.{Extent}
 use Rattle.tw_surface.specs.declared.measure.Piece.{Piece}
 use Rattle.tw_surface.specs.declared.measure.Piece.TheVariants.{Wide}
-use Rattle.tw_surface.specs.Characters.{is_printable}
+use Rattle.tw_surface.specs.Characters.{is_printable, is_plain}
 use Rattle.tw_surface.specs.Extents.{place_of, reach_all}
 use Rattle.tw_surface.specs.Paintings.{place_at}
-use Rattle.tw_surface.specs.Places.{Place, next_place, end_of_pieces, places_after}
+use Rattle.tw_surface.specs.Places.{Place, next_place, end_of_pieces, places_after, pieces, cluster_piece, plain_piece}
 use Rattle.tw_surface.proofs.DrawingLemmas.{place_of-pieces}
 use Rattle.tw_surface.proofs.RowLemmas.{plain_from_printable, printable_pieces}
 use Rattle.tw_surface.specs.Width.{column_width}
-use Rattle.tw_hosts.specs.Settling.{settled_pieces, place_after_text, needed_by_text, begins_at, rows_between, columns_between, line_start, settled_place, settled_column, is_settled}
-use Rattle.tw_hosts.specs.SettlingLaws.{goes_on, ColumnLeadsThere, CursorIsSettled, PrintableIsPlain, NoOtherColumn, SomeColumn, WholeIsMeasured}
+use Rattle.tw_hosts.specs.Settling.{settled_pieces, place_after_text, needed, needed_by_text, begins_at, rows_between, columns_between, line_start, settled_place, settled_column, is_settled, char_columns, character_piece, character_pieces, is_parted, cell_pieces, pieces_left, PrintableIsUnchanged, goes_on, ColumnLeadsThere, CursorIsSettled, PrintableIsPlain, NoOtherColumn, SomeColumn, WholeIsMeasured}
 use Rattle.tw_host.specs.HostRules.{HostRules}
-use Rattle.tw_hosts.specs.SettledRules.{PrintableIsUnchanged}
-use Rattle.tw_hosts.proofs.SettlingPieces.{plain_needs, plain_settles, whole_settles}
+use Rattle.std.specs.Char.{encode_utf8}
+use Rattle.std.specs.Str.{chars, IsUtf8}
+use Rattle.std.proofs.lemmas.List.Sums.{sum_by-cons}
+use Rattle.std.proofs.lemmas.Str.{chars_past_char, chars-nil}
+use Rattle.unicode_segmentation.specs.Grapheme.{graphemes}
+
+-- columns that are summed up to a limit
+pub saturated : (cs : List ℕ) (sum top : ℕ) → sum ≤ top → fold (λ sum c. min (sum + char_columns c) top) sum cs ≡ min (sum + sum_by char_columns cs) top
+saturated [] sum top low = omega arith
+saturated (c ∷ cs) sum top low =
+    saturated cs (min (sum + char_columns c) top) top (omega arith) ∙ omega (arith, sum_by-cons char_columns c cs)
+
+-- the pieces of a text behind its first character, and of the empty one
+pub pieces_past : (text rest : List ℕ) (c : ℕ) → IsUtf8 text → text ≡ encode_utf8 c ++ rest → character_pieces (chars text) ≡ character_piece c ++ character_pieces (chars rest)
+pieces_past text rest c utf8 e = ap character_pieces (chars_past_char text rest c utf8 e)
+
+pub pieces_none : (text : List ℕ) → length text ≡ 0 → character_pieces (chars text) ≡ []
+pieces_none text e = ap (λ t. character_pieces (chars t)) (nil_from_length text e) ∙ ap character_pieces chars-nil
+
+-- what the beginning of a text needs
+plain-needed : (text : List ℕ) → needed (map plain_piece text) ≡ 1
+plain-needed [] = refl
+plain-needed (b ∷ text) = grind (arith, nat_tests)
+
+pub plain_needs : (text : List ℕ) → list_all is_plain text ≡ true → needed_by_text text ≡ 1
+unfolding needed_by_text settled_pieces
+plain_needs text h = rw h (plain-needed text)
+
+-- a plain text has the editor's pieces
+pub plain_settles : (text : List ℕ) → list_all is_plain text ≡ true → settled_pieces text ≡ pieces text
+unfolding settled_pieces pieces
+plain_settles text h = rw h refl
+
+pub other_settles : (text : List ℕ) → list_all is_plain text ≡ false → settled_pieces text ≡ pieces_left [] text
+unfolding settled_pieces
+other_settles text h = rw (h, chars-nil) refl
+
+-- and so has one of whole clusters
+whole-cells : (clusters : List (List ℕ)) → list_all (λ cluster. not (is_parted cluster)) clusters ≡ true → flat_map cell_pieces clusters ≡ map cluster_piece clusters
+whole-cells [] h = refl
+whole-cells (cluster ∷ more) h = let rest = whole-cells more in grind (arith, nat_tests)
+
+pub whole_settles : (text : List ℕ) → list_all (λ cluster. not (is_parted cluster)) (graphemes true text) ≡ true → settled_pieces text ≡ pieces text
+unfolding settled_pieces pieces
+whole_settles text h = let cells = whole-cells (graphemes true text) h in grind (arith, nat_tests)
 
 -- where a text ends that was measured
 pub end_reached : (cols : ℕ) (ps : List Piece) (t r : Extent) → r ≡ reach_all t (places_after cols ps (place_of t)) → place_of r ≡ end_of_pieces cols ps (place_of t)
 end_reached cols ps t r e = ap place_of e ∙ place_of-pieces cols ps t
 
 -- texts lead down
-next-below : (cols : ℕ) (piece : Piece) (p : Place) → p.y ≤ℤ (next_place cols piece p).y
-next-below cols piece p = grind (arith, ints, nat_tests)
-
-pub end_below : (cols : ℕ) (ps : List Piece) (p : Place) → p.y ≤ℤ (end_of_pieces cols ps p).y
+end_below : (cols : ℕ) (ps : List Piece) (p : Place) → p.y ≤ℤ (end_of_pieces cols ps p).y
 end_below cols [] p = omega (arith, ints)
-end_below cols (piece ∷ more) p = omega (arith, ints, next-below cols piece p, end_below cols more (next_place cols piece p))
-
-begins-below : (cols width : ℕ) (p : Place) → p.y ≤ℤ (begins_at cols width p).y
-begins-below cols width p = grind (arith, ints, nat_tests)
+end_below cols (piece ∷ more) p = let rest = end_below cols more (next_place cols piece p) in grind (arith, ints, nat_tests)
 
 -- the cell of the cursor is on the screen
+some-needed : (ps : List Piece) → 0 < needed ps
+some-needed ps = grind (arith, nat_tests)
+
 some-text : (text : List ℕ) → 0 < needed_by_text text
 unfolding needed_by_text
-some-text text = grind (arith, nat_tests)
+some-text text = some-needed (settled_pieces text)
 
 begins-within : (cols width : ℕ) (p : Place) → 0 < cols → 0 < width → (begins_at cols width p).x < cols
 begins-within cols width p some wide = grind (arith, nat_tests)
@@ -67,8 +106,8 @@ column_leads_there cols prompt cut h =
     let some : 0 < cols = grind (arith, nat_tests, h) in
     let ahead : start.x ≤ rows_between start (settled_place cols prompt cut) * cols + (settled_place cols prompt cut).x = grind (arith, nat_tests, h) in
     let last = place_after_text cols before start in
-    let below : start.y ≤ℤ (settled_place cols prompt cut).y =
-    omega (arith, ints, end_below cols (settled_pieces before) start, begins-below cols (needed_by_text rest) last) in
+    let low = end_below cols (settled_pieces before) start in
+    let below : start.y ≤ℤ (settled_place cols prompt cut).y = grind (arith, ints, nat_tests) in
     rw h (found cols start (settled_place cols prompt cut) some (begins-within cols (needed_by_text rest) last some (some-text rest)) below ahead)
 
 pub cursor_is_settled : CursorIsSettled
@@ -81,26 +120,12 @@ pub record IsBehind (cols n : ℕ) (p q : Place) : Type 0 where
   pub below : p.y ≤ℤ q.y
   pub within : q.x ≤ cols
 
-step-behind : (cols n : ℕ) (p q : Place) → 0 < cols → IsBehind cols n p q → IsBehind cols (n + 1) p (next_place cols (Wide 1) q)
-step-behind cols n p q some h = grind (arith, ints, nat_tests, add-mul (rows_between p q) 1 cols)
-
 go-behind : (cols n count : ℕ) (p q : Place) → 0 < cols → IsBehind cols n p q → IsBehind cols (n + count) p (end_of_pieces cols (replicate count (Wide 1)) q)
 go-behind cols n zero p q some h = (let e : n ≡ n + 0 = omega arith in rw (← e) h)
 go-behind cols n (suc count) p q some h =
     let e : n + 1 + count ≡ n + suc count = omega arith in
-    rw (← e) (go-behind cols (n + 1) count p (next_place cols (Wide 1) q) some (step-behind cols n p q some h))
-
-behind-itself : (cols : ℕ) (p : Place) → p.x ≤ cols → IsBehind cols 0 p p
-behind-itself cols p h = grind (arith, ints)
-
--- the cell for one column more is as many columns later
-begins-behind : (cols n : ℕ) (p q : Place) → 0 < cols → IsBehind cols n p q → rows_between p (begins_at cols 1 q) * cols + (begins_at cols 1 q).x ≡ p.x + n
-begins-behind cols n p q some h =
-    grind (arith, ints, nat_tests, add-mul (rows_between p q) 1 cols)
-
--- a printable text has the editor's pieces
-settled_printable : (text : List ℕ) → list_all is_printable text ≡ true → settled_pieces text ≡ replicate (length text) (Wide 1)
-settled_printable text h = plain_settles text (plain_from_printable text h) ∙ printable_pieces text h
+    let step : IsBehind cols (n + 1) p (next_place cols (Wide 1) q) = grind (arith, ints, nat_tests, add-mul (rows_between p q) 1 cols) in
+    rw (← e) (go-behind cols (n + 1) count p (next_place cols (Wide 1) q) some step)
 
 -- the parts of a printable text are printable
 printable_parts : (n : ℕ) (text : List ℕ) → list_all is_printable text ≡ true → (list_all is_printable (take n text) ≡ true) × (list_all is_printable (drop n text) ≡ true)
@@ -124,9 +149,9 @@ printable_is_plain cols prompt cut h = by (is_settled cols prompt cut) refl
         let last = place_after_text cols before start in
         let some : 0 < cols = grind (arith, nat_tests, e) in
         let inside : start.x ≤ cols = grind (arith, nat_tests, e) in
-        let went : IsBehind cols (0 + length before) start last =
-        rw (settled_printable before parts.0) (go-behind cols 0 (length before) start start some (behind-itself cols start inside)) in
-        let far = begins-behind cols (0 + length before) start last some went in
+        let here : IsBehind cols 0 start start = grind (arith, ints) in
+        let went : IsBehind cols (0 + length before) start last = rw (plain_settles before (plain_from_printable before parts.0) ∙ printable_pieces before parts.0) (go-behind cols 0 (length before) start start some here) in
+        let far : rows_between start (begins_at cols 1 last) * cols + (begins_at cols 1 last).x ≡ start.x + length before = grind (arith, ints, nat_tests, add-mul (rows_between start last) 1 cols) in
         let same : columns_between cols start (begins_at cols 1 last) ≡ length before = omega (arith, far) in
         rw (e, plain_needs rest (plain_from_printable rest parts.1)) (same ∙ sym (printable-width before parts.0))
 
@@ -164,15 +189,15 @@ end-ahead cols (piece ∷ more) p q on h =
     let both = and_parts (goes_on cols piece) (list_all (goes_on cols) more) on in
     end-ahead cols more p (next_place cols piece q) both.1 (piece-ahead cols piece p q both.0 h)
 
-begins-ahead : (cols width : ℕ) (p q : Place) → IsAheadOf cols p q → IsAheadOf cols p (begins_at cols width q)
-begins-ahead cols width p q h = let row = row-ahead cols 0 p q (omega arith) h in grind (arith, nat_tests)
-
 pub some_column : SomeColumn
 some_column cols prompt cut measured inside on =
     let start = line_start cols prompt in
     let within : start.x ≤ cols = leb-true start.x cols inside in
     let here : IsAheadOf cols start start = grind (arith, ints) in
-    let there = begins-ahead cols (needed_by_text (drop cut.cursor cut.line)) start _ (end-ahead cols (settled_pieces (take cut.cursor cut.line)) start start on here) in
+    let last = place_after_text cols (take cut.cursor cut.line) start in
+    let end = end-ahead cols (settled_pieces (take cut.cursor cut.line)) start start on here in
+    let row = row-ahead cols 0 start last (omega arith) end in
+    let there : IsAheadOf cols start (settled_place cols prompt cut) = grind (arith, nat_tests) in
     and_from _ _ measured (and_from _ _ inside (le-leb _ _ there.columns))
 
 -- a text of whole clusters leads where the editor measures it

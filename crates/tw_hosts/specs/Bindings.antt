@@ -1,5 +1,7 @@
 -- A host's own keys, as a table.
-use Rattle.std.specs.Prelude.{List, [], ◌∷◌, Option, Some, None, option_map, if◌then◌else◌}
+use Rattle.std.specs.Prelude.{List, Option, None, option_map}
+use Rattle.std.specs.List.{find}
+use Rattle.std.specs.Option.{option_map_or}
 use Rattle.tw_input.specs.declared.key.KeyEvent.{KeyEvent}
 use Rattle.tw_input.specs.EventView.{EventView, Key}
 use Rattle.tw_line.specs.declared.movements.Movement.TheVariants.{EndOfLine}
@@ -14,8 +16,7 @@ use Rattle.tw_hosts.specs.declared.bindings.Binding.TheVariants.{Clear, Cancel, 
 
 -- what the first row with this key says
 abbrev pub bound : List KeyBinding → KeyEvent → Option Binding
-bound [] key = None
-bound (row ∷ rest) key = if is_same_key row.key key then Some row.binding else bound rest key
+bound rows key = option_map (λ row. row.binding) (find (λ row. is_same_key row.key key) rows)
 
 -- the action of a binding: a cleared line is killed to its end, which ends a completion
 abbrev pub binding_action : Binding → ActionView
@@ -40,11 +41,6 @@ abbrev pub binding_cut : Binding → Cut → Cut
 binding_cut Clear cut = empty_cut
 binding_cut _ cut = cut
 
--- what a binding makes of the line, if there is one
-abbrev pub cut_by : Option Binding → Cut → Cut
-cut_by (Some binding) cut = binding_cut binding cut
-cut_by None cut = cut
-
 -- what the table says of an event: a key may have a row, and nothing else has one
 abbrev pub bound_event : List KeyBinding → EventView → Option Binding
 bound_event rows (Key key) = bound rows key
@@ -54,6 +50,6 @@ bound_event rows _ = None
 abbrev pub resolved_event : {V : Type 0} → V → List KeyBinding → EventView → Cut → Resolution V
 resolved_event v rows event cut = record {
   value = v;
-  cut = cut_by (bound_event rows event) cut;
+  cut = option_map_or (λ binding. binding_cut binding cut) (bound_event rows event) cut;
   action = option_map binding_action (bound_event rows event);
 }

@@ -1,10 +1,6 @@
 pub mod Words
-pub mod WordCompletion
 pub mod Tokens
 pub mod Bindings
 pub mod Hints
 pub mod TableRules
-pub mod FaithfulParts
 pub mod Settling
-pub mod SettlingLaws
-pub mod SettledRules

@@ -1,16 +1,12 @@
 -- How a line is cut into tokens, and how each is shown. A token is a quoted text, a space, or what stands up to one of
 -- them.
-use Rattle.std.specs.Prelude.{ℕ, zero, suc, ◌==◌, ◌+◌, ◌||◌, Bool, false, List, [], ◌∷◌, ◌++◌, length, take, drop, max, min, Option, Some, None, if◌then◌else◌}
-use Rattle.std.specs.List.{position_or_len}
+use Rattle.std.specs.Prelude.{ℕ, codes, zero, suc, ◌==◌, ◌+◌, Bool, false, List, [], ◌∷◌, ◌++◌, length, take, drop, max, min, Option, Some, None, if◌then◌else◌, ◌≡◌}
 use Rattle.tw_surface.specs.Defaults.{default_attributes}
 use Rattle.tw_surface.specs.declared.cell.CellAttributes.{CellAttributes}
-use Rattle.tw_host.specs.ElementView.{ElementView, Attribute, AllAttributes, Text}
-use Rattle.tw_hosts.specs.Words.{is_known}
+use Rattle.tw_host.specs.ElementView.{ElementView, AllAttributes, Text}
+use Rattle.tw_hosts.specs.Words.{is_known, word_end}
 use Rattle.tw_hosts.specs.declared.tokens.Styles.{Styles}
-
--- how many bytes stand before the first such byte, or all
-abbrev pub up_to : ℕ → List ℕ → ℕ
-up_to mark text = position_or_len (λ byte. byte == mark) text
+use Rattle.tw_host.specs.Faithful.{text_of_elements}
 
 -- whether a text begins with a quotation mark
 abbrev pub is_quote : List ℕ → Bool
@@ -19,11 +15,11 @@ is_quote (byte ∷ rest) = byte == 39
 
 -- the length of a quoted text: up to the next mark, which is part of it, or to the end
 abbrev pub quote_len : List ℕ → ℕ
-quote_len text = min (up_to 39 (drop 1 text) + 2) (length text)
+quote_len text = min (word_end (codes "'") (drop 1 text) + 2) (length text)
 
 -- the length of what stands before the first space or mark, or of one space
 abbrev pub word_len : List ℕ → ℕ
-word_len text = max 1 (position_or_len (λ byte. (byte == 32) || (byte == 39)) text)
+word_len text = max 1 (word_end (codes " '") text)
 
 -- the length of the first token of a text
 abbrev pub token_len : List ℕ → ℕ
@@ -64,9 +60,16 @@ text_before (byte ∷ rest) elements = Text (byte ∷ rest) ∷ elements
 abbrev pub joined_elements : List ElementView → List ElementView
 joined_elements [] = []
 joined_elements (Text text ∷ elements) = text_before text (joined_elements elements)
-joined_elements (Attribute change ∷ elements) = Attribute change ∷ joined_elements elements
-joined_elements (AllAttributes attributes ∷ elements) = AllAttributes attributes ∷ joined_elements elements
+joined_elements (element ∷ elements) = element ∷ joined_elements elements
 
 -- all tokens of a line: it has no more than bytes
 abbrev pub styled_line : Styles → List (List ℕ) → List ℕ → List ElementView
 styled_line styles keywords line = joined_elements (styled_tokens (length line) styles keywords line)
+
+-- a text with attributes is that text
+abbrev pub StyledIsText : Type 0
+StyledIsText = (attributes : CellAttributes) (text : List ℕ) → text_of_elements (styled_text attributes text) ≡ text
+
+-- the tokens of a line, one after the other, are the line
+abbrev pub TokensAreLine : Type 0
+TokensAreLine = (styles : Styles) (keywords : List (List ℕ)) (line : List ℕ) → text_of_elements (styled_line styles keywords line) ≡ line

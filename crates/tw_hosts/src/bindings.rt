@@ -1,10 +1,11 @@
 //! A host's own keys, as a table.
 
 ghost use Rattle.std.specs.Prelude.{◌≡◌, option_map};
+ghost use Rattle.std.specs.Option.{option_map_or};
 ghost use Rattle.tw_input.specs.EventView.{event_view};
 ghost use Rattle.tw_host.specs.ActionView.{action_view};
 ghost use Rattle.tw_host.specs.KeyTable.{is_same_key};
-ghost use Rattle.tw_hosts.specs.Bindings.{binding_action, bound, bound_event, cut_by};
+ghost use Rattle.tw_hosts.specs.Bindings.{binding_action, binding_cut, bound, bound_event};
 
 use tw_host::Action;
 use tw_input::{InputEvent, KeyEvent};
@@ -64,12 +65,8 @@ fn is_same(key: KeyEvent, other: KeyEvent) -> bool
 pub fn bound(rows: &[KeyBinding], key: KeyEvent) -> Option<Binding>
     ensures { result ≡ bound rows.now key }
 {
-    for row in rows {
-        if is_same(row.key, key) {
-            return Some(row.binding);
-        }
-    }
-    None
+    let row = rows.iter().find(|row| is_same(row.key, key))?;
+    Some(row.binding)
 }
 
 /// Returns the action of a binding. That of `Clear`, whose line is emptied before, is a kill, which ends a completion.
@@ -101,7 +98,8 @@ pub fn resolve_key(
     event: &InputEvent,
     editor: &mut LineEditBuffer,
 ) -> Option<Action>
-    ensures cut { editor.new ≡ cut_by (bound_event rows.now (event_view event.now)) editor.old }
+    ensures cut { editor.new ≡ option_map_or (λ binding. binding_cut binding editor.old)
+        (bound_event rows.now (event_view event.now)) editor.old }
     ensures action { option_map action_view result
         ≡ option_map binding_action (bound_event rows.now (event_view event.now)) }
 {

@@ -2,7 +2,7 @@
 
 ghost use Rattle.std.specs.Prelude.{◌≡◌, IfOk, map, option_map};
 ghost use Rattle.tw_host.specs.ElementView.{element_view};
-ghost use Rattle.tw_hosts.specs.Hints.{hint_elements, hint_for, hint_view};
+ghost use Rattle.tw_hosts.specs.Hints.{hint_elements, hint_for};
 
 use crate::words::first_word;
 use std::alloc::{AllocError, Global};
@@ -19,14 +19,10 @@ pub struct Hint {
 
 /// Returns the text of the first hint for a word.
 fn hint_for<'hints>(hints: &'hints [Hint], word: &str) -> Option<&'hints str>
-    ensures { option_map (λ text. text.now) result ≡ hint_for (map hint_view hints.now) word.now }
+    ensures { option_map (λ text. text.now) result ≡ hint_for hints.now word.now }
 {
-    for hint in hints {
-        if hint.word.as_str() == word {
-            return Some(hint.text.as_str());
-        }
-    }
-    None
+    let hint = hints.iter().find(|hint| hint.word.as_str() == word)?;
+    Some(hint.text.as_str())
 }
 
 /// Returns what is shown under a line: the text of the first hint for its first word, or nothing.
@@ -36,7 +32,7 @@ pub fn show_hint(
     line: &str,
 ) -> Result<Vec<OutputElement>, AllocError>
     ensures { IfOk result (λ elements. map element_view elements.items
-        ≡ hint_elements (map hint_view hints.now) line.now) }
+        ≡ hint_elements hints.now line.now) }
 {
     match hint_for(hints, first_word(line)) {
         Some(text) => plain_element(alloc, text),

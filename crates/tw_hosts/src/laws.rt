@@ -2,21 +2,21 @@
 
 ghost use Rattle.tw_input.specs.Equality.{ComparesValues};
 ghost use Rattle.tw_host.specs.Faithful.{IsFaithful};
-ghost use Rattle.tw_hosts.specs.FaithfulParts.{StyledIsText, TokensAreLine};
-ghost use Rattle.tw_hosts.specs.SettledRules.{PrintableIsUnchanged};
-ghost use Rattle.tw_hosts.specs.SettlingLaws.{ColumnLeadsThere, CursorIsSettled, NoOtherColumn, PrintableIsPlain, SomeColumn, WholeIsMeasured};
+ghost use Rattle.tw_hosts.specs.Tokens.{StyledIsText, TokensAreLine};
+ghost use Rattle.tw_hosts.specs.Settling.{ColumnLeadsThere, CursorIsSettled, NoOtherColumn, PrintableIsPlain, PrintableIsUnchanged, SomeColumn, WholeIsMeasured};
 ghost use Rattle.tw_hosts.specs.TableRules.{table_rules};
 
 use crate::tokens::Styles;
 use tw_host::LineEditorHost;
 
 /// `==` is equality of values.
+#[tactic(auto, using(tw_surface::proofs::EqualityLemmas::attributes_equal, std::proofs::lemmas::Bool::and_parts, std::proofs::lemmas::Bool::and_from))]
 pub fn equality()
     ensures { ComparesValues ⟦<Styles as PartialEq>⟧.eq }
 {}
 
 /// The parts show the text that they are given, and a host of tables the prompt and the line themselves.
-#[tactic(auto, using(crate::proofs::FaithfulLemmas::styled_is_text, crate::proofs::FaithfulLemmas::tokens_are_line, crate::proofs::FaithfulLemmas::tables_are_faithful))]
+#[tactic(auto, using(crate::proofs::TokenLemmas::styled_is_text, crate::proofs::TokenLemmas::tokens_are_line, crate::proofs::TokenLemmas::tables_are_faithful))]
 pub fn faithful()
     ensures styled { StyledIsText }
     ensures tokens { TokensAreLine }

@@ -21,5 +21,6 @@ pub use settling::{PromptScreen, settled_column};
 pub use table_host::{TableHost, Tables};
 pub use tokens::{Styles, highlight_tokens, split_token, styled};
 pub use words::{
-    complete_word, end_row, first_word, is_known, last_word, split_first_word, words_from,
+    complete_word, end_row, first_word, is_known, last_word, split_begun, split_first_word,
+    words_from,
 };

@@ -4,14 +4,14 @@
 //! the cursor's cell by division, which knows nothing of such a hole. Who knows the screen's columns and the prompt
 //! counts the holes in.
 
-ghost use Rattle.std.specs.Prelude.{◌≡◌, ◌≤◌, ◌-ℤ◌, [], chars, MatchOption, IsCharBoundary, nat_abs, true, false};
+ghost use Rattle.std.specs.Prelude.{◌≡◌, ◌<◌, ◌≤◌, ◌+◌, ◌-ℤ◌, [], ◌∷◌, chars, length, IfSome, MatchOption, IsCharBoundary, nat_abs, true, false};
+ghost use Rattle.tw_surface.specs.declared.measure.Piece.TheVariants.{Wide};
 ghost use Rattle.tw_surface.specs.Extents.{place_of, Measures};
-ghost use Rattle.tw_surface.specs.Places.{is_in_range, pieces, places_after};
+ghost use Rattle.tw_surface.specs.Places.{is_in_range, places_after};
 ghost use Rattle.tw_surface.specs.Positions.{at_least_0};
 ghost use Rattle.tw_input.specs.EventView.{event_view};
 ghost use Rattle.tw_line.specs.Cut.{cut_at};
-ghost use Rattle.tw_hosts.specs.Settling.{char_columns, character_piece, character_pieces, is_parted, cell_pieces, settled_pieces, needed, needed_by_text, begins_at, columns_between, is_ahead, is_measured, is_settled, line_start, place_after_text, settled_column, settled_place};
-ghost use Rattle.tw_hosts.specs.SettledRules.{column_on, screen_after, screen_view};
+ghost use Rattle.tw_hosts.specs.Settling.{char_columns, character_pieces, is_parted, pieces_left, settled_pieces, needed_by_text, begins_at, columns_between, is_ahead, is_measured, is_settled, line_start, place_after_text, settled_column, settled_place, column_on, screen_after, screen_view};
 
 use tw_input::InputEvent;
 use tw_surface::{
@@ -68,47 +68,52 @@ fn is_parted(cluster: &str) -> bool
             == width
 }
 
-/// Returns the extent after a character by itself.
-fn after_character(cols: usize, start: Extent, c: char) -> Option<Extent>
-    requires cols { cols ≤ 65535 }
-    requires range { is_in_range (place_of start) ≡ true }
-    ensures { Measures start (places_after cols (character_piece c) (place_of start)) result }
+/// Returns the columns of the first character that takes some, and what follows it, or `None` if none does.
+#[tactic(auto, using(crate::proofs::SettlingLemmas::pieces_none))]
+fn split_wide(text: &str) -> Option<(usize, &str)>
+    ensures pieces { MatchOption result
+        (character_pieces (chars text.now) ≡ [])
+        (λ (width, rest). character_pieces (chars text.now)
+        ≡ Wide width ∷ character_pieces (chars rest.now)) }
+    ensures shorter { IfSome result (λ (width, rest). length rest.now < length text.now) }
 {
-    match char_columns(c) {
-        0 => Some(start),
-        width => start.advance(cols, Piece::Wide(width)),
+    let mut chars = text.chars();
+    while let Some(c) = chars.next() {
+        let width = char_columns(c);
+        if width > 0 {
+            return Some((width, chars.as_str()));
+        }
     }
+    None
 }
 
-/// Returns the extent after the characters of a text that take columns, each by itself.
-fn after_characters(cols: usize, start: Extent, text: &str) -> Option<Extent>
-    requires cols { cols ≤ 65535 }
-    requires range { is_in_range (place_of start) ≡ true }
-    ensures { Measures start
-        (places_after cols (character_pieces (chars text.now)) (place_of start)) result }
+/// Returns the first piece of what is left of a parted cluster and of the text after it, and what is left of both
+/// then, or `None` if they have no piece.
+#[tactic(auto, using(crate::proofs::SettlingLemmas::pieces_none))]
+fn split_piece<'text>(
+    parted: &'text str,
+    text: &'text str,
+) -> Option<(Piece, &'text str, &'text str)>
+    ensures pieces { MatchOption result
+        (pieces_left parted.now text.now ≡ [])
+        (λ (piece, left, rest). pieces_left parted.now text.now
+        ≡ piece ∷ pieces_left left.now rest.now) }
+    ensures shorter { IfSome result (λ (piece, left, rest).
+        length left.now + length rest.now < length parted.now + length text.now) }
 {
-    let mut extent = start;
-    for c in text.chars() {
-        extent = after_character(cols, extent, c)?;
+    if let Some((width, left)) = split_wide(parted) {
+        return Some((Piece::Wide(width), left, text));
     }
-    Some(extent)
-}
-
-/// Returns the extent after a grapheme cluster.
-fn after_cluster(cols: usize, start: Extent, cluster: &str) -> Option<Extent>
-    requires cols { cols ≤ 65535 }
-    requires range { is_in_range (place_of start) ≡ true }
-    ensures { Measures start (places_after cols (cell_pieces cluster.now) (place_of start)) result }
-{
+    let (cluster, rest) = split_cluster(text)?;
     if is_parted(cluster) {
-        after_characters(cols, start, cluster)
+        split_piece(cluster, rest)
     } else {
-        start.advance(cols, Piece::of_cluster(cluster))
+        Some((Piece::of_cluster(cluster), "", rest))
     }
 }
 
 /// Returns the extent after a text, or `None` if a place on the way is out of range.
-#[tactic(auto, unfolding(crate::specs::Settling::settled_pieces, tw_surface::specs::Places::pieces))]
+#[tactic(auto, using(crate::proofs::SettlingLemmas::plain_settles, crate::proofs::SettlingLemmas::other_settles))]
 fn after_pieces(cols: usize, start: Extent, text: &str) -> Option<Extent>
     requires cols { cols ≤ 65535 }
     requires range { is_in_range (place_of start) ≡ true }
@@ -118,47 +123,28 @@ fn after_pieces(cols: usize, start: Extent, text: &str) -> Option<Extent>
         return measure_text(cols, start, text);
     }
     let mut extent = start;
-    let mut rest = text;
-    while let Some((cluster, more)) = split_cluster(rest) {
-        extent = after_cluster(cols, extent, cluster)?;
+    let (mut parted, mut rest) = ("", text);
+    while let Some((piece, left, more)) = split_piece(parted, rest) {
+        extent = extent.advance(cols, piece)?;
+        parted = left;
         rest = more;
     }
     Some(extent)
 }
 
-/// Returns the width of the first character that is not zero-width, or 1.
-fn needed_by_characters(text: &str) -> usize
-    ensures { result ≡ needed (character_pieces (chars text.now)) }
-{
-    text.chars()
-        .map(char_columns)
-        .find(|width| *width != 0)
-        .unwrap_or(1)
-}
-
-/// Returns the columns that the first piece of a cluster needs, and 1 for a cluster without width: the cursor itself
-/// takes one.
-fn needed_by_cluster(cluster: &str) -> usize
-    ensures { result ≡ needed (cell_pieces cluster.now) }
-{
-    if is_parted(cluster) {
-        return needed_by_characters(cluster);
-    }
-    match Piece::of_cluster(cluster) {
-        Piece::Wide(width) => width.max(1),
-        Piece::Cr | Piece::Lf | Piece::CrLf => 1,
-    }
-}
-
-/// Returns the columns that the beginning of a text needs.
-#[tactic(auto, unfolding(crate::specs::Settling::needed_by_text))]
+/// Returns the columns that the beginning of a text needs: those of its first piece, and 1 at least for the cursor
+/// itself.
+#[tactic(auto, using(crate::proofs::SettlingLemmas::plain_needs, crate::proofs::SettlingLemmas::other_settles), unfolding(crate::specs::Settling::needed_by_text))]
 fn needed_by_text(text: &str) -> usize
     ensures { result ≡ needed_by_text text.now }
 {
     if is_plain_text(text.as_bytes()) {
         return 1;
     }
-    split_cluster(text).map_or(1, |(cluster, _)| needed_by_cluster(cluster))
+    match split_piece("", text) {
+        Some((Piece::Wide(width), _, _)) => width.max(1),
+        _ => 1,
+    }
 }
 
 /// Returns the cell in which something of `width` columns begins after a place.

@@ -4,7 +4,7 @@ ghost use Rattle.std.specs.Prelude.{◌≡◌, ◌<◌, ◌++◌, IfOk, List, []
 ghost use Rattle.tw_host.specs.ElementView.{ElementView, element_view};
 ghost use Rattle.tw_hosts.specs.Tokens.{text_before, is_quote, joined_elements, quote_len, styled_or_plain, style_of, styled_text, styled_line, token_len, word_len};
 
-use crate::words::is_known;
+use crate::words::{is_known, word_end};
 use std::alloc::{AllocError, Global};
 use tw_host::OutputElement;
 use tw_surface::CellAttributes;
@@ -31,16 +31,14 @@ fn quote_len(text: &[u8]) -> usize
     ensures { result ≡ quote_len text.now }
 {
     let body = &text[1..];
-    let end = body.iter().position(|byte| *byte == b'\'');
-    (end.unwrap_or(body.len()) + 2).min(text.len())
+    (word_end("'", body) + 2).min(text.len())
 }
 
 /// Returns how many bytes stand before the first space or mark, and 1 for a space.
 fn word_len(text: &[u8]) -> usize
     ensures { result ≡ word_len text.now }
 {
-    let end = text.iter().position(|byte| *byte == b' ' || *byte == b'\'');
-    end.unwrap_or(text.len()).max(1)
+    word_end(" '", text).max(1)
 }
 
 /// Returns the length of the first token of a text in bytes.
@@ -57,11 +55,12 @@ fn token_len(text: &str) -> usize
 
 /// Splits a text that is not empty after its first token: a text in single quotation marks, or up to the end if the
 /// second mark is missing; a space; or the text before one of them.
-#[tactic(auto, using(crate::proofs::TokenLemmas::token_boundary))]
+#[tactic(auto, using(crate::proofs::TokenLemmas::token_boundary, crate::proofs::TokenLemmas::some_token))]
 pub fn split_token(text: &str) -> (&str, &str)
     requires { 0 < length text.now }
     ensures token { result.0.now ≡ take (token_len text.now) text.now }
     ensures rest { result.1.now ≡ drop (token_len text.now) text.now }
+    ensures shorter { length result.1.now < length text.now }
 {
     text.split_at(token_len(text))
 }
@@ -142,10 +141,7 @@ pub fn highlight_tokens(
     let mut elements = Vec::new(alloc);
     let mut plain = String::new(alloc);
     let mut rest = line;
-    for _ in 0..line.len() {
-        if rest.is_empty() {
-            break;
-        }
+    while !rest.is_empty() {
         let (token, after) = split_token(rest);
         let style = style_of(styles, keywords, token);
         push_token(alloc, style, token, &mut elements, &mut plain)?;

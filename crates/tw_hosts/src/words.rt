@@ -1,12 +1,9 @@
 //! Words of a line, and what completes the one before the cursor.
 
-ghost use Rattle.std.specs.Prelude.{◌==◌, ◌≡◌, ◌<◌, ◌≤◌, IfOk, IsCharBoundary, length, map};
-ghost use Rattle.std.specs.List.{after_last};
+ghost use Rattle.std.specs.Prelude.{◌≡◌, ◌≤◌, IfOk, IsCharBoundary, length, map};
 ghost use Rattle.tw_host.specs.CandidateView.{candidate_view};
 ghost use Rattle.tw_line.specs.Cut.{cut_at};
-ghost use Rattle.tw_hosts.specs.Tokens.{up_to};
-ghost use Rattle.tw_hosts.specs.WordCompletion.{begins_in, word_completions, words_from};
-ghost use Rattle.tw_hosts.specs.Words.{after_word, leading_word, is_known, end_row, last_word, texts_of};
+ghost use Rattle.tw_hosts.specs.Words.{begins_in, word_completions, words_from, after_word, before_word, begun_part, end_row, is_delimiter, is_known, last_word, leading_word, texts_of, word_end, word_start};
 
 use std::alloc::{AllocError, Global};
 use tw_host::CompletionCandidate;
@@ -15,24 +12,37 @@ use tw_host::CompletionCandidate;
 pub fn is_known(words: &[String], word: &str) -> bool
     ensures { result ≡ is_known (texts_of words.now) word.now }
 {
-    words.iter().any(|known| known.as_str() == word)
+    for known in words {
+        if known.as_str() == word {
+            return true;
+        }
+    }
+    false
 }
 
-/// Returns the number of bytes before the first mark, or of the text if it has none.
-pub fn up_to(text: &str, mark: char) -> usize
-    requires { mark < 128 }
-    ensures value { result ≡ up_to mark text.now }
-    ensures boundary { IsCharBoundary text.now result }
+/// Returns true if a byte is one of these delimiters, and one of ASCII.
+fn is_delimiter(delimiters: &str, byte: u8) -> bool
+    ensures { result ≡ is_delimiter delimiters.now byte }
 {
-    text.find(mark).unwrap_or(text.len())
+    byte.is_ascii() && delimiters.as_bytes().contains(&byte)
+}
+
+/// Returns how many bytes stand before the first delimiter, or how many there are if none is one.
+pub fn word_end(delimiters: &str, text: &[u8]) -> usize
+    ensures value { result ≡ word_end delimiters.now text.now }
+    ensures within { result ≤ length text.now }
+{
+    let end = text.iter().position(|byte| is_delimiter(delimiters, *byte));
+    end.unwrap_or(text.len())
 }
 
 /// Returns what stands before the first space of a text, or all of it if it has none, and what follows it.
+#[tactic(auto, using(crate::proofs::WordLemmas::end_boundary, std::proofs::lemmas::Grind::common_steps))]
 pub fn split_first_word(text: &str) -> (&str, &str)
     ensures word { result.0.now ≡ leading_word text.now }
     ensures rest { result.1.now ≡ after_word text.now }
 {
-    text.split_at(up_to(text, ' '))
+    text.split_at(word_end(" ", text.as_bytes()))
 }
 
 /// Returns what stands before the first space of a text, or all of it if it has none.
@@ -42,16 +52,25 @@ pub fn first_word(text: &str) -> &str
     split_first_word(text).0
 }
 
-/// Returns what stands after the last mark of a text, or all of it if it has none.
-fn after_last(text: &str, mark: char) -> &str
-    requires { mark < 128 }
-    ensures value { result.now ≡ after_last (λ byte. byte == mark) text.now }
-    ensures length { length result.now ≤ length text.now }
+/// Returns where the last word of a text begins: after the last delimiter.
+fn word_start(delimiters: &str, text: &str) -> usize
+    ensures value { result ≡ word_start delimiters.now text.now }
+    ensures boundary { IsCharBoundary text.now result }
 {
-    match text.rsplit_once(mark) {
-        Some((_, after)) => after,
-        None => text,
-    }
+    let bytes = text.as_bytes();
+    let word = bytes
+        .iter()
+        .rev()
+        .position(|byte| is_delimiter(delimiters, *byte));
+    bytes.len() - word.unwrap_or(bytes.len())
+}
+
+/// Splits a text before its last word, which begins after the last of these delimiters.
+pub fn split_begun<'text>(delimiters: &str, text: &'text str) -> (&'text str, &'text str)
+    ensures before { result.0.now ≡ before_word delimiters.now text.now }
+    ensures word { result.1.now ≡ begun_part delimiters.now text.now }
+{
+    text.split_at(word_start(delimiters, text))
 }
 
 /// Returns what stands after the last space of a text, or all of it if it has none.
@@ -59,14 +78,14 @@ pub fn last_word(text: &str) -> &str
     ensures value { result.now ≡ last_word text.now }
     ensures length { length result.now ≤ length text.now }
 {
-    after_last(text, ' ')
+    split_begun(" ", text).1
 }
 
 /// Returns what stands after the last line feed of a text, or all of it if it has none.
 pub fn end_row(text: &str) -> &str
     ensures { result.now ≡ end_row text.now }
 {
-    after_last(text, '\n')
+    split_begun("\n", text).1
 }
 
 /// Returns true if a word begins with a text. With `ignores_case`, the case of ASCII letters does not count.

@@ -11,10 +11,10 @@ abbrev pub is_key : KeyEvent → EventView → Bool
 is_key key (Key other) = is_same_key other key
 is_key key _ = false
 
--- what the first row with this key has
-abbrev pub row_with_key : {X : Type 0} → List (KeyEvent × X) → KeyEvent → Option X
-row_with_key [] key = None
-row_with_key (row ∷ rest) key = if is_same_key row.0 key then Some row.1 else row_with_key rest key
+-- what the first row with the key of an event has
+abbrev pub row_with_key : {X : Type 0} → List (KeyEvent × X) → EventView → Option X
+row_with_key [] event = None
+row_with_key (row ∷ rest) event = if is_key row.0 event then Some row.1 else row_with_key rest event
 
 -- brings the newest kill back
 abbrev pub yank_key : KeyEvent

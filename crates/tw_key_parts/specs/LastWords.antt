@@ -10,13 +10,9 @@ use Rattle.tw_key_parts.specs.Keys.{is_key, last_word_key}
 use Rattle.tw_key_parts.specs.Recalled.{line_before_recall, older_index, recalled_kept}
 use Rattle.tw_key_parts.specs.declared.recalled.Recalled.{Recalled}
 
--- the last word of a line in its row, whatever whitespace follows it
-abbrev pub last_argument : List ℕ → List ℕ
-last_argument line = last_word (end_row (trim_end line))
-
--- the last word of a line with an index, put into a cut text
+-- the last word of a line in its row, whatever whitespace follows it, put into a cut text
 abbrev pub recalled_word : Cut → ℕ → List ℕ → Edited Recalled
-recalled_word cut i line = record { cut = Some cut; action = InsertText 1 (last_argument line); kept = record { before = cut; index = i } }
+recalled_word cut i line = record { cut = Some cut; action = InsertText 1 (last_word (end_row (trim_end line))); kept = record { before = cut; index = i } }
 
 -- the word that an event puts in, but during a search: a word that was put in right before gives way to the next one,
 -- from the line before

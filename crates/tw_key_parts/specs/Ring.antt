@@ -1,10 +1,10 @@
 -- What was killed, and how it comes back.
-use Rattle.std.specs.Prelude.{ℕ, ◌≡◌, ◌≤◌, ◌<◌, ◌+◌, ◌-◌, ◌==◌, ◌&&◌, ◌||◌, nat_lt, Bool, not, List, [], ◌∷◌, ◌++◌, length, take, drop, map, eqb, codes, string_bytes, Option, Some, None, option_map, if◌then◌else◌, slice_get}
+use Rattle.std.specs.Prelude.{ℕ, ◌≡◌, ◌≤◌, ◌<◌, ◌+◌, ◌-◌, ◌==◌, ◌&&◌, ◌||◌, nat_lt, Bool, not, List, [], ◌∷◌, ◌++◌, length, take, drop, map, eqb, codes, string_bytes, Option, Some, None, option_map, if◌then◌else◌, slice_get, ◌≢◌, false, min, max, IsSomeAnd}
 use Rattle.std.specs.Option.{option_and_then}
 use Rattle.std.specs.String.{string_capacity}
 use Rattle.std.specs.Vec.{vec_capacity, vec_len}
 use Rattle.std.specs.List.{ends_with, remove_range, slice_index_or}
-use Rattle.tw_input.specs.EventView.{EventView}
+use Rattle.tw_input.specs.EventView.{EventView, Key}
 use Rattle.tw_input.specs.Modifiers.{alt}
 use Rattle.tw_line.specs.Cut.{Cut, cut_at}
 use Rattle.tw_line.specs.Movements.{destination}
@@ -12,12 +12,13 @@ use Rattle.tw_line.specs.declared.movements.Movement.{Movement}
 use Rattle.tw_host.specs.ActionView.{ActionView, InsertText, Kill, KillAndMove}
 use Rattle.tw_host.specs.KeyTable.{key_press, letter}
 use Rattle.std.specs.Cmp.Lexicographic.{pointwise}
-use Rattle.tw_key_parts.specs.KeyRules.{Edited, KeyRules, KeyStep}
+use Rattle.tw_key_parts.specs.KeyRules.{Edited, KeyRules, KeyStep, step_of}
 use Rattle.tw_key_parts.specs.Keys.{deletes_character, is_key, yank_key}
 use Rattle.tw_key_parts.specs.WordEdits.{passed_text}
 use Rattle.tw_key_parts.specs.declared.ring.KillRing.{KillRing}
 use Rattle.tw_key_parts.specs.declared.ring.Latest.{Latest}
 use Rattle.tw_key_parts.specs.declared.ring.Latest.TheVariants as latest
+use Rattle.tw_line.specs.Edits.{with_text}
 
 -- the kills, the oldest first, and what was done last
 pub record Ring : Type 0 where
@@ -52,13 +53,9 @@ leads_onward m cut = nat_lt cut.cursor (destination m cut)
 
 -- ---- what is kept
 
--- the most kills that are kept
-abbrev pub most_kills : ℕ
-most_kills = 10
-
--- the kills but for the oldest, where there are the most
+-- the kills but for the oldest, where there are ten
 abbrev pub with_room : List (List ℕ) → List (List ℕ)
-with_room kills = if nat_lt (length kills) most_kills then kills else drop 1 kills
+with_room kills = if nat_lt (length kills) 10 then kills else drop 1 kills
 
 -- the newest kill
 abbrev pub newest_kill : List (List ℕ) → List ℕ
@@ -113,13 +110,11 @@ ring_after step r = with_killing (kill_of step.searching step.event step.action 
 abbrev pub yank_of : List (List ℕ) → ℕ → Cut → Option Yanked
 yank_of kills index cut = option_map (λ text. record { cut = cut; text = text; index = index }) (slice_get kills index)
 
--- the cut text without the `n` bytes before the cursor
-abbrev pub without_before : ℕ → Cut → Cut
-without_before n cut = cut_at (remove_range cut.line (cut.cursor - n) cut.cursor) (cut.cursor - n)
-
 -- the cut text without a text before the cursor, if it stands there
 abbrev pub taken_out : Cut → List ℕ → Option Cut
-taken_out cut text = if ends_with eqb (take cut.cursor cut.line) text then Some (without_before (length text) cut) else None
+taken_out cut text =
+    let front = take cut.cursor cut.line in
+    if ends_with eqb front text then Some (with_text (take (length front - length text) front) (cut_at (drop cut.cursor cut.line) 0)) else None
 
 -- the index before another, and before the first one the last
 abbrev pub index_below : List (List ℕ) → ℕ → ℕ
@@ -149,3 +144,41 @@ ring_follows r None step = ring_after step r
 
 abbrev pub ring_key_rules : KeyRules Ring ℕ
 ring_key_rules = record { edits = λ r asked. option_map yank_edit (yank_by asked.searching asked.event r asked.cut); follows = ring_follows; leaves = λ r. record r { latest = latest.Other } }
+
+-- ---- what kills in a row and a yank after them give back
+
+-- the line with the newest kill put back at the cursor, where a kill was the last thing done; else the line
+abbrev pub line_before : Latest → List (List ℕ) → Cut → List ℕ
+line_before latest.Kill kills cut = (with_text (newest_kill kills) cut).line
+line_before _ kills cut = cut.line
+
+-- the line before the kills that were done last
+abbrev pub given_back : Ring → Cut → List ℕ
+given_back r cut = line_before r.latest r.kills cut
+
+-- the ring after an action of an event, done on the line as it was, outside a search
+abbrev pub ring_behind : EventView → ActionView → Cut → Ring → Ring
+ring_behind event action cut r = ring_after (step_of event false cut cut (Some action)) r
+
+-- an action of an event kills what is kept by this movement, and leaves the cursor where it killed
+pub record KillsInPlace (event : EventView) (action : ActionView) (m : Movement) (old new : Cut) : Type 0 where
+  pub kills : killing event (Some action) ≡ Some m
+  pub inside : old.cursor ≤ length old.line
+  pub line : new.line ≡ remove_range old.line (min old.cursor (destination m old)) (max old.cursor (destination m old))
+  pub cursor : new.cursor ≡ min old.cursor (destination m old)
+
+-- a kill keeps the line before the kills that were done last: so one kill or many in a row give the line before the
+-- first
+abbrev pub KillsKeepLine : Type 0
+KillsKeepLine = (event : EventView) (action : ActionView) (m : Movement) (old new : Cut) (r : Ring)
+    → KillsInPlace event action m old new → given_back (ring_behind event action old r) new ≡ given_back r old
+
+-- where it killed anything it is what was done last
+abbrev pub KillIsLatest : Type 0
+KillIsLatest = (event : EventView) (action : ActionView) (m : Movement) (old : Cut) (r : Ring)
+    → killing event (Some action) ≡ Some m → passed_text m old ≢ [] → (ring_behind event action old r).latest ≡ latest.Kill
+
+-- a yank right after a kill gives the line before the kills back
+abbrev pub YankGivesBack : Type 0
+YankGivesBack = (r : Ring) (cut : Cut) → r.latest ≡ latest.Kill → 1 ≤ length r.kills
+    → IsSomeAnd (yank_by false (Key yank_key) r cut) (λ y. (with_text y.text y.cut).line ≡ given_back r cut)

@@ -1,10 +1,10 @@
 -- Keys for lines of several rows, which line feeds end.
-use Rattle.std.specs.Prelude.{ℕ, ◌≡◌, ◌≢◌, ◌≤◌, ◌<◌, ◌+◌, ◌-◌, ◌==◌, ◌||◌, Bool, true, false, leb, min, max, codes, List, [], ◌∷◌, length, slice_index, slice_range, map, chars, IsSomeAnd, Option, Some, None, option_map, unwrap_or, if◌then◌else◌}
-use Rattle.std.specs.List.{list_any}
+use Rattle.std.specs.Prelude.{ℕ, ◌≡◌, ◌≢◌, ◌≤◌, ◌<◌, ◌+◌, ◌-◌, ◌==◌, Bool, true, false, leb, min, max, codes, List, [], ◌∷◌, length, slice_range, take, drop, map, chars, IsSomeAnd, Option, Some, None, option_map, unwrap_or, if◌then◌else◌}
+use Rattle.std.specs.List.{list_any, position_or_len}
 use Rattle.std.specs.Option.{option_and_then, option_flatten}
 use Rattle.std.specs.Str.{encode_utf8_all}
 use Rattle.tw_surface.specs.Characters.{lf}
-use Rattle.tw_line.specs.Extremes.{greatest_below, least_from}
+use Rattle.tw_line.specs.Extremes.{least_from}
 use Rattle.tw_input.specs.declared.key.KeyCode.TheVariants as keycode
 use Rattle.tw_input.specs.declared.key.KeyEvent.{KeyEvent}
 use Rattle.tw_input.specs.EventView.{EventView, Key, Paste}
@@ -15,8 +15,9 @@ use Rattle.tw_line.specs.Movements.{destination}
 use Rattle.tw_line.specs.declared.movements.Movement.TheVariants as movement
 use Rattle.tw_host.specs.ActionView.{ActionView, InsertChar, InsertText, KillAndMove, Move}
 use Rattle.tw_host.specs.KeyTable.{key_press, letter}
+use Rattle.tw_hosts.specs.Words.{end_row}
 use Rattle.tw_key_parts.specs.ClusterSteps.{cluster_steps}
-use Rattle.tw_key_parts.specs.KeyRules.{Asked, Edited, KeyRules}
+use Rattle.tw_key_parts.specs.KeyRules.{Asked, Edited, KeyRules, in_place}
 use Rattle.tw_key_parts.specs.Keys.{row_with_key}
 use Rattle.tw_key_parts.specs.WordEdits.{passed_text}
 use Rattle.tw_key_parts.specs.Ring.{killing}
@@ -50,26 +51,17 @@ row_keys =
 
 -- the key of an event
 abbrev pub row_key : EventView → Option RowKey
-row_key (Key key) = row_with_key row_keys key
-row_key _ = None
+row_key event = row_with_key row_keys event
 
 -- ---- the rows of a line
 
--- whether a line feed stands at an offset
-abbrev pub is_line_feed : List ℕ → ℕ → Bool
-is_line_feed line at = slice_index line at == lf
-
--- whether a row begins at an offset: with the line, or after a line feed
-abbrev pub begins_row : List ℕ → ℕ → Bool
-begins_row line at = at == 0 || is_line_feed line (at - 1)
-
--- where the row of an offset begins: at the greatest offset up to there at which a row begins
+-- where the row of an offset begins: where the last row before it does
 abbrev pub row_start : List ℕ → ℕ → ℕ
-row_start line at = unwrap_or (greatest_below (begins_row line) (at + 1)) 0
+row_start line at = let front = take at line in length front - length (end_row front)
 
--- where it ends: at the first line feed from there on, or with the line
+-- where it ends: at the next line feed, or with the line
 abbrev pub row_end : List ℕ → ℕ → ℕ
-row_end line at = unwrap_or (least_from (is_line_feed line) at (length line - at)) (length line)
+row_end line at = min (at + position_or_len (λ byte. byte == lf) (drop at line)) (length line)
 
 -- ---- steps by grapheme clusters
 
@@ -86,10 +78,6 @@ is_reached_by way to cut count = has_reached way to (destination (cluster_steps 
 abbrev pub steps_to : Way → ℕ → Cut → ℕ
 steps_to way to cut = unwrap_or (least_from (is_reached_by way to cut) 0 (length cut.line)) (length cut.line)
 
--- the place `column` steps after the start of a row, or the end of a shorter row
-abbrev pub place_in_row : List ℕ → ℕ → ℕ → ℕ
-place_in_row line start column = min (destination (movement.ForwardChar column) (cut_at line start)) (row_end line start)
-
 -- ---- what the keys do
 
 -- in each row but the first its start, in each row but the last its end
@@ -102,9 +90,11 @@ abbrev pub row_beside : Way → List ℕ → ℕ → ℕ
 row_beside Back line start = row_start line (start - 1)
 row_beside Ahead line end = end + 1
 
--- a column of the row above or below, if there is one
+-- the place `column` steps after the start of the row above or below, or the end of a shorter row, if there is such a row
 abbrev pub place_beside : Way → ℕ → Cut → Option ℕ
-place_beside way column cut = option_map (λ edge. place_in_row cut.line (row_beside way cut.line edge) column) (edge_of_row way cut)
+place_beside way column cut =
+    let place : ℕ → ℕ = λ start. min (destination (movement.ForwardChar column) (cut_at cut.line start)) (row_end cut.line start) in
+    option_map (λ edge. place (row_beside way cut.line edge)) (edge_of_row way cut)
 
 -- the cursor goes back, or ahead, to an offset
 abbrev pub move_to : Way → Option ℕ → Cut → Option ActionView
@@ -119,31 +109,24 @@ killed_to_end cut =
 abbrev pub goal_column : Option ℕ → Cut → ℕ
 goal_column goal cut = unwrap_or goal (steps_to Back (row_start cut.line cut.cursor) cut)
 
--- an action as an edit of the line, which stays as it is; a column may be kept
-abbrev pub row_edit : Option ℕ → Option ActionView → Option (Edited (Option ℕ))
-row_edit kept action = option_map (λ action. record { cut = None; action = action; kept = kept }) action
-
--- the edit of a key
+-- the edit of a key, and the column that it keeps
 abbrev pub edit_by : RowKey → Option ℕ → Cut → Option (Edited (Option ℕ))
-edit_by Break goal cut = row_edit None (Some (InsertChar 1 lf))
-edit_by (ToRow way) goal cut = let column = goal_column goal cut in row_edit (Some column) (move_to way (place_beside way column cut) cut)
-edit_by (ToEdge way) goal cut = row_edit None (move_to way (edge_of_row way cut) cut)
-edit_by KillToEnd goal cut = row_edit None (killed_to_end cut)
+edit_by Break goal cut = in_place (Some (InsertChar 1 lf)) None
+edit_by (ToRow way) goal cut = let column = goal_column goal cut in in_place (move_to way (place_beside way column cut) cut) (Some column)
+edit_by (ToEdge way) goal cut = in_place (move_to way (edge_of_row way cut) cut) None
+edit_by KillToEnd goal cut = in_place (killed_to_end cut) None
 
 -- whether a line feed stands in a text
 abbrev pub has_rows : List ℕ → Bool
 has_rows text = list_any (λ b. b == lf) text
 
 -- a text with a space for each line feed
-abbrev pub row_character : ℕ → ℕ
-row_character c = if c == lf then 32 else c
-
 abbrev pub in_one_row : List ℕ → List ℕ
-in_one_row text = encode_utf8_all (map row_character (chars text))
+in_one_row text = encode_utf8_all (map (λ c. if c == lf then 32 else c) (chars text))
 
 -- during a search a pasted text of several rows is joined
 abbrev pub edit_of_pattern : EventView → Option (Edited (Option ℕ))
-edit_of_pattern (Paste text) = if has_rows text then row_edit None (Some (InsertText 1 (in_one_row text))) else None
+edit_of_pattern (Paste text) = if has_rows text then in_place (Some (InsertText 1 (in_one_row text))) None else None
 edit_of_pattern _ = None
 
 -- the keys edit, but during a search

@@ -1,15 +1,15 @@
 -- The lines before the steps of a reading.
-use Rattle.std.specs.Prelude.{ℕ, ◌&&◌, ◌||◌, Bool, true, false, not, List, [], ◌∷◌, ◌++◌, length, take, eqb, codes, Option, Some, None, if◌then◌else◌, option_map, unwrap_or}
+use Rattle.std.specs.Prelude.{ℕ, ◌&&◌, ◌||◌, Bool, true, false, not, List, [], ◌∷◌, ◌++◌, length, take, eqb, codes, Option, Some, None, if◌then◌else◌, option_map, unwrap_or, ◌≡◌}
 use Rattle.std.specs.Cmp.Lexicographic.{pointwise}
 use Rattle.std.specs.List.{slice_index_or}
 use Rattle.std.specs.Option.{is_none, option_map_or}
-use Rattle.tw_line.specs.Extremes.{greatest_below}
+use Rattle.tw_line.specs.Extremes.{greatest_below, iterate}
 use Rattle.tw_input.specs.EventView.{EventView}
 use Rattle.tw_input.specs.Modifiers.{ctrl}
 use Rattle.tw_line.specs.Cut.{Cut, empty_cut}
 use Rattle.tw_host.specs.ActionView.{ActionView, InsertChar, InsertText, Repaint, Kill, KillAndMove, HistoryPrevious, HistoryNext, Complete, NoAction, HistoryIncSearchBackwards, HistoryIncSearchForwards, ends_line}
 use Rattle.tw_host.specs.KeyTable.{key_press, letter}
-use Rattle.tw_key_parts.specs.KeyRules.{Asked, Edited, KeyRules, KeyStep}
+use Rattle.tw_key_parts.specs.KeyRules.{Asked, Edited, KeyRules, KeyStep, shown}
 use Rattle.tw_key_parts.specs.Keys.{is_key}
 use Rattle.tw_key_parts.specs.declared.undo.UndoSteps.{UndoSteps}
 
@@ -43,19 +43,11 @@ is_edit HistoryIncSearchBackwards = true
 is_edit HistoryIncSearchForwards = true
 is_edit _ = false
 
--- an action that types a character
-abbrev pub types_character : ActionView → Bool
-types_character (InsertChar r x) = true
-types_character _ = false
-
--- the lines of two cut texts are the same
-abbrev pub is_same_line : Cut → Cut → Bool
-is_same_line a b = pointwise eqb a.line b.line
-
 -- a step begins: by an edit, or where the host changed the line itself; a character that is typed right after others on
 -- a line that the host left as it was begins none
 abbrev pub begins_step : Option ActionView → Bool → Bool → Bool
-begins_step action same typing = (option_map_or is_edit action false || not same) && not (typing && (option_map_or types_character action false && same))
+begins_step (Some (InsertChar r x)) same typing = not (typing && same)
+begins_step action same typing = option_map_or is_edit action false || not same
 
 -- whether the last step is typing that goes on: where a character was typed it is, and where nothing is done it is as
 -- before
@@ -63,20 +55,8 @@ abbrev pub typing_after : Option ActionView → Bool → Bool
 typing_after None typing = typing
 typing_after (Some NoAction) typing = typing
 typing_after (Some Repaint) typing = typing
-typing_after (Some action) typing = types_character action
-
--- all of it after an action, if there is one: an end leaves no steps, and the prefix is an event for which nothing is done
-abbrev pub undo_after : KeyStep → Undo → Undo
-undo_after step u =
-    let same = is_same_line step.before step.after in
-    record {
-      before =
-          if option_map_or ends_line step.action false then []
-          else if begins_step step.action same u.typing && not step.searching then u.before ++ step.before ∷ []
-          else u.before;
-      typing = not step.searching && (typing_after step.action u.typing && same);
-      prefixed = is_none step.action && is_key (key_press ctrl (letter (codes "X"))) step.event;
-    }
+typing_after (Some (InsertChar r x)) typing = true
+typing_after (Some _) typing = false
 
 -- ---- what comes back
 
@@ -108,17 +88,43 @@ undo_behind left u = record { before = take left u.before; typing = false; prefi
 abbrev pub is_undo : Undo → EventView → Bool
 is_undo u event = is_key (key_press ctrl (letter (codes "_"))) event || (u.prefixed && is_key (key_press ctrl (letter (codes "U"))) event)
 
--- the keys undo, but during a search; nothing is typed, which ends a completion
+-- the keys undo, but during a search
 abbrev pub undo_edit : Undo → Asked → Option (Edited ℕ)
-undo_edit u asked =
-    if is_undo u asked.event && not asked.searching
-    then Some (record { cut = Some (undone u asked.cut); action = InsertChar 0 32; kept = steps_left u asked.cut })
-    else None
+undo_edit u asked = if is_undo u asked.event && not asked.searching then Some (shown (undone u asked.cut) (steps_left u asked.cut)) else None
 
--- an undo leaves its steps, and all else may be one more
+-- an undo leaves its steps, and all else may be one more: an end leaves no steps, and the prefix is an event for which
+-- nothing is done
 abbrev pub undo_follows : Undo → Option ℕ → KeyStep → Undo
 undo_follows u (Some left) step = undo_behind left u
-undo_follows u None step = undo_after step u
+undo_follows u None step =
+    let same = pointwise eqb step.before.line step.after.line in
+    record {
+      before =
+          if option_map_or ends_line step.action false then []
+          else if begins_step step.action same u.typing && not step.searching then u.before ++ step.before ∷ []
+          else u.before;
+      typing = not step.searching && (typing_after step.action u.typing && same);
+      prefixed = is_none step.action && is_key (key_press ctrl (letter (codes "X"))) step.event;
+    }
 
 abbrev pub undo_key_rules : KeyRules Undo ℕ
 undo_key_rules = record { edits = undo_edit; follows = undo_follows; leaves = λ u. no_steps }
+
+-- ---- what undos lead to
+
+-- the oldest line: that before the first step, or without steps the line itself
+abbrev pub oldest_line : List Cut → Cut → List ℕ
+oldest_line [] cut = cut.line
+oldest_line (before ∷ later) cut = before.line
+
+-- the steps and the cut text after one undo
+abbrev pub undo_once : Undo × Cut → Undo × Cut
+undo_once at = (undo_behind (steps_left at.0 at.1) at.0, undone at.0 at.1)
+
+-- as many undos as there are steps give the oldest line
+abbrev pub UndosGiveOldest : Type 0
+UndosGiveOldest = (u : Undo) (cut : Cut) → (iterate undo_once (length u.before) (u, cut)).1.line ≡ oldest_line u.before cut
+
+-- and one undo keeps it
+abbrev pub UndoKeepsOldest : Type 0
+UndoKeepsOldest = (u : Undo) (cut : Cut) → oldest_line (undo_behind (steps_left u cut) u).before (undone u cut) ≡ oldest_line u.before cut

@@ -29,9 +29,9 @@ pub fn deletes_character(event: &InputEvent) -> bool
     let InputEvent::Key(press) = event else {
         return false;
     };
-    match press.modifiers {
-        Modifiers::NONE => matches!(press.key, KeyCode::Delete | KeyCode::Backspace),
-        Modifiers::CTRL => matches!(press.key, KeyCode::Char('H' | 'D')),
-        _ => false,
-    }
+    matches!(
+        (press.modifiers, press.key),
+        (Modifiers::NONE, KeyCode::Delete | KeyCode::Backspace)
+            | (Modifiers::CTRL, KeyCode::Char('H' | 'D')),
+    )
 }

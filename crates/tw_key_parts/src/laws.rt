@@ -4,8 +4,8 @@ ghost use Rattle.tw_input.specs.Equality.{ComparesValues};
 ghost use Rattle.tw_key_parts.specs.Pairs.{OrderIsFree};
 ghost use Rattle.tw_key_parts.specs.ReadlineKeys.{RowsAreDistinct, RowsAreNew};
 ghost use Rattle.tw_key_parts.specs.RowKeys.{OneRowIsLeft, RowKillIsKept, StepsLeadThere};
-ghost use Rattle.tw_key_parts.specs.RingLaws.{KillIsLatest, KillsKeepLine, YankGivesBack};
-ghost use Rattle.tw_key_parts.specs.UndoLaws.{UndoKeepsOldest, UndosGiveOldest};
+ghost use Rattle.tw_key_parts.specs.Ring.{KillIsLatest, KillsKeepLine, YankGivesBack};
+ghost use Rattle.tw_key_parts.specs.Undo.{UndoKeepsOldest, UndosGiveOldest};
 
 use crate::part::KeyPart;
 use crate::ring::Latest;
@@ -21,7 +21,7 @@ pub fn equality()
 
 /// One kill, or many in a row, each of which leaves the cursor where it killed, and a yank right after them give back
 /// the line before the first.
-#[tactic(auto, using(crate::proofs::GivenBackLemmas::kills_keep_line, crate::proofs::GivenBackLemmas::kill_is_latest, crate::proofs::GivenBackLemmas::yank_gives_back))]
+#[tactic(auto, using(crate::proofs::RingLemmas::kills_keep_line, crate::proofs::RingLemmas::kill_is_latest, crate::proofs::RingLemmas::yank_gives_back))]
 pub fn kills()
     ensures kept { KillsKeepLine }
     ensures latest { KillIsLatest }
@@ -29,7 +29,7 @@ pub fn kills()
 {}
 
 /// As many undos as there are steps give the oldest line, and each of them keeps it.
-#[tactic(auto, using(crate::proofs::UndoLawLemmas::undo_keeps_oldest, crate::proofs::UndoLawLemmas::undos_give_oldest))]
+#[tactic(auto, using(crate::proofs::UndoLemmas::undo_keeps_oldest, crate::proofs::UndoLemmas::undos_give_oldest))]
 pub fn undos()
     ensures kept { UndoKeepsOldest }
     ensures given { UndosGiveOldest }
@@ -48,7 +48,7 @@ pub fn readline_table()
 
 /// The keys for rows leave a line of one row to the other keys, but for the key that begins a row. The steps that they
 /// count lead to the cluster boundary that is meant, and a kill ring keeps the rest of a row that they kill.
-#[tactic(auto, using(crate::proofs::RowLemmas::one_row_is_left, crate::proofs::RowLemmas::steps_lead_there, crate::proofs::RowLemmas::row_kill_is_kept))]
+#[tactic(auto, using(crate::proofs::StepLemmas::one_row_is_left, crate::proofs::StepLemmas::steps_lead_there, crate::proofs::StepLemmas::row_kill_is_kept))]
 pub fn rows()
     ensures one { OneRowIsLeft }
     ensures steps { StepsLeadThere }

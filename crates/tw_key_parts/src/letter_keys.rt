@@ -2,27 +2,32 @@
 
 ghost use Rattle.std.specs.Prelude.{◌≡◌, IfOk, option_map};
 ghost use Rattle.tw_host.specs.ActionView.{action_view};
-ghost use Rattle.tw_host.specs.KeyTable.{looked_up};
-ghost use Rattle.tw_key_parts.specs.LetterKeys.{letter_table};
+ghost use Rattle.tw_input.specs.EventView.{event_view};
+ghost use Rattle.tw_key_parts.specs.Keys.{row_with_key};
+ghost use Rattle.tw_key_parts.specs.ClusterSteps.{letter_table};
 
-use crate::edit::Edit;
-use crate::letters::{steps_to_word_end, steps_to_word_start};
+use crate::edit::{EditResult, in_place};
+use crate::part::Asked;
 use crate::plain_keys::PlainKeys;
+use crate::steps::{steps_to_word_end, steps_to_word_start};
 use std::alloc::{AllocError, Global};
 use tw_host::Action;
-use tw_input::{InputEvent, KeyCode, KeyEvent, Modifiers};
+use tw_input::{InputEvent, KeyCode, Modifiers};
 use tw_line::{History, LineEditBuffer, Movement};
 
-/// Returns the action of a key.
+/// Returns the action of an event.
 fn key_action(
     alloc: Global,
-    key: KeyEvent,
+    event: &InputEvent,
     editor: &LineEditBuffer,
 ) -> Result<Option<Action>, AllocError>
     ensures { IfOk result (λ action. option_map action_view action
-        ≡ looked_up (letter_table editor.now) key) }
+        ≡ row_with_key (letter_table editor.now) (event_view event.now)) }
 {
-    match (key.modifiers, key.key) {
+    let InputEvent::Key(press) = event else {
+        return Ok(None);
+    };
+    match (press.modifiers, press.key) {
         (Modifiers::CTRL, KeyCode::RightArrow) | (Modifiers::ALT, KeyCode::Char('f')) => {
             let count = steps_to_word_end(alloc, editor)?;
             Ok(Some(Action::Move(Movement::ForwardChar(count))))
@@ -50,26 +55,15 @@ fn key_action(
 pub struct LetterWords;
 
 impl PlainKeys for LetterWords {
-    ghost use Rattle.tw_key_parts.specs.LetterKeys.{letter_edit};
+    ghost use Rattle.tw_key_parts.specs.ClusterSteps.{letter_edit};
 
     ghost edits = { letter_edit };
 
-    fn edit<L: History>(
-        &self,
-        alloc: Global,
-        searching: bool,
-        _history: &L,
-        event: &InputEvent,
-        line: &LineEditBuffer,
-    ) -> Result<Option<Edit<()>>, AllocError> {
-        let action = match event {
-            InputEvent::Key(key) if !searching => key_action(alloc, *key, line)?,
-            _ => None,
-        };
-        Ok(action.map(|action| Edit {
-            line: None,
-            action,
-            note: (),
-        }))
+    fn edit<L: History>(&self, alloc: Global, asked: &Asked<'_, L>) -> EditResult<()> {
+        if asked.searching {
+            return Ok(None);
+        }
+        let action = key_action(alloc, asked.event, asked.line)?;
+        Ok(in_place(action, ()))
     }
 }

@@ -1,16 +1,8 @@
 //! Two parts as one.
 
-ghost use Rattle.std.specs.Prelude.{◌≡◌, option_map};
-ghost use Rattle.tw_input.specs.EventView.{event_view};
-ghost use Rattle.tw_key_parts.specs.EditView.{lent_action};
-ghost use Rattle.tw_key_parts.specs.Pairs.{pair_rules};
-ghost use Rattle.tw_key_parts.specs.KeyRules.{step_of};
-
-use crate::edit::Edit;
-use crate::part::KeyPart;
+use crate::edit::{Edit, EditResult};
+use crate::part::{Asked, KeyPart, Step, follow_event};
 use std::alloc::{AllocError, Global};
-use tw_host::Action;
-use tw_input::InputEvent;
 use tw_line::{History, LineEditBuffer};
 
 impl<A: KeyPart, B: KeyPart> KeyPart for (A, B) {
@@ -31,22 +23,12 @@ impl<A: KeyPart, B: KeyPart> KeyPart for (A, B) {
 
     ghost is_ready = { λ it cut. A.is_ready it.0 cut × B.is_ready it.1 cut };
 
-    fn edit<L: History>(
-        &self,
-        alloc: Global,
-        searching: bool,
-        history: &L,
-        event: &InputEvent,
-        line: &LineEditBuffer,
-    ) -> Result<Option<Edit<(Option<A::Note>, Option<B::Note>)>>, AllocError> {
-        if let Some(Edit { line, action, note }) = self
-            .0
-            .edit(alloc, searching, history, event, line)?
-        {
+    fn edit<L: History>(&self, alloc: Global, asked: &Asked<'_, L>) -> EditResult<Self::Note> {
+        if let Some(Edit { line, action, note }) = self.0.edit(alloc, asked)? {
             let note = (Some(note), None);
             return Ok(Some(Edit { line, action, note }));
         }
-        match self.1.edit(alloc, searching, history, event, line)? {
+        match self.1.edit(alloc, asked)? {
             Some(Edit { line, action, note }) => {
                 let note = (None, Some(note));
                 Ok(Some(Edit { line, action, note }))
@@ -60,28 +42,15 @@ impl<A: KeyPart, B: KeyPart> KeyPart for (A, B) {
         self.1.prepare(alloc, line)
     }
 
-    fn follow(
-        &mut self,
-        alloc: Global,
-        note: Option<(Option<A::Note>, Option<B::Note>)>,
-        searching: bool,
-        event: &InputEvent,
-        before: &LineEditBuffer,
-        after: &LineEditBuffer,
-        action: Option<&Action>,
-    )
-        requires ready { A.is_ready self.old.0 before.now × B.is_ready self.old.1 before.now }
-        ensures { (A.state self.new.0, B.state self.new.1)
-            ≡ (pair_rules A.keys B.keys).follows (A.state self.old.0, B.state self.old.1)
-            (option_map (λ note. (option_map A.kept note.0, option_map B.kept note.1)) note)
-            (step_of (event_view event.now) searching before.now after.now
-            (lent_action action.entry)) }
-    {
-        let (first, second) = note.unwrap_or((None, None));
-        self.0
-            .follow(alloc, first, searching, event, before, after, action);
-        self.1
-            .follow(alloc, second, searching, event, before, after, action);
+    fn follow(&mut self, alloc: Global, step: &Step<'_>) {
+        self.0.follow(alloc, step);
+        self.1.follow(alloc, step);
+    }
+
+    fn follow_own(&mut self, alloc: Global, note: Self::Note, step: &Step<'_>) {
+        let (first, second) = note;
+        follow_event(&mut self.0, alloc, first, step);
+        follow_event(&mut self.1, alloc, second, step);
     }
 
     fn leave_line(&mut self) {

@@ -1,14 +1,11 @@
 //! Keys without a state.
 
 ghost use Rattle.std.specs.Prelude.{◌≡◌, IfOk, option_map};
-ghost use Rattle.tw_input.specs.EventView.{event_view};
-ghost use Rattle.tw_key_parts.specs.EditView.{edit_view};
+ghost use Rattle.tw_key_parts.specs.EditView.{asked_view, edit_view};
 
-use crate::edit::Edit;
-use crate::part::KeyPart;
+use crate::edit::EditResult;
+use crate::part::{Asked, KeyPart, Step};
 use std::alloc::{AllocError, Global};
-use tw_host::Action;
-use tw_input::InputEvent;
 use tw_line::{History, LineEditBuffer};
 
 /// Keys without a state: each edit is a function of the event, the line and the history.
@@ -19,21 +16,9 @@ pub trait PlainKeys {
     ghost edits: { Asked → Option (Edited (Unit {0})) };
 
     /// Returns the edit of an event, if it is one of the keys.
-    fn edit<L: History>(
-        &self,
-        alloc: Global,
-        searching: bool,
-        history: &L,
-        event: &InputEvent,
-        line: &LineEditBuffer,
-    ) -> Result<Option<Edit<()>>, AllocError>
+    fn edit<L: History>(&self, alloc: Global, asked: &Asked<'_, L>) -> EditResult<()>
         ensures { IfOk result (λ edit. option_map (edit_view (λ note. note)) edit
-            ≡ edits (record {
-              event = event_view event.now;
-              searching = searching;
-              lines = L.lines history.now;
-              cut = line.now;
-            })) };
+            ≡ edits (asked_view L.lines asked.now)) };
 }
 
 /// Plain keys as a part.
@@ -41,7 +26,7 @@ pub trait PlainKeys {
 pub struct Keys<K>(pub K);
 
 impl<K: PlainKeys> KeyPart for Keys<K> {
-    ghost use Rattle.tw_key_parts.specs.PlainKeys.{plain_key_rules};
+    ghost use Rattle.tw_key_parts.specs.KeyRules.{plain_key_rules};
 
     type Note = ();
 
@@ -57,34 +42,17 @@ impl<K: PlainKeys> KeyPart for Keys<K> {
 
     ghost is_ready = { λ it cut. Unit {0} };
 
-    fn edit<L: History>(
-        &self,
-        alloc: Global,
-        searching: bool,
-        history: &L,
-        event: &InputEvent,
-        line: &LineEditBuffer,
-    ) -> Result<Option<Edit<()>>, AllocError> {
-        self.0.edit(alloc, searching, history, event, line)
+    fn edit<L: History>(&self, alloc: Global, asked: &Asked<'_, L>) -> EditResult<()> {
+        self.0.edit(alloc, asked)
     }
 
     fn prepare(&mut self, _alloc: Global, _line: &LineEditBuffer) -> Result<(), AllocError> {
         Ok(())
     }
 
-    fn follow(
-        &mut self,
-        _alloc: Global,
-        _note: Option<()>,
-        _searching: bool,
-        _event: &InputEvent,
-        _before: &LineEditBuffer,
-        _after: &LineEditBuffer,
-        _action: Option<&Action>,
-    )
-        requires ready { Unit {0} }
-        ensures { tt {0} ≡ tt }
-    {}
+    fn follow(&mut self, _alloc: Global, _step: &Step<'_>) {}
+
+    fn follow_own(&mut self, _alloc: Global, _note: (), _step: &Step<'_>) {}
 
     fn leave_line(&mut self) {}
 }

@@ -3,16 +3,14 @@
 ghost use Rattle.std.specs.Prelude.{◌≡◌, IfOk, None, Some, if◌then◌else◌, length, option_map};
 ghost use Rattle.tw_hosts.specs.Words.{begins_with};
 ghost use Rattle.tw_input.specs.EventView.{event_view};
-ghost use Rattle.tw_key_parts.specs.EditView.{edit_view, lent_action};
+ghost use Rattle.tw_key_parts.specs.EditView.{edit_view};
 ghost use Rattle.tw_line.specs.Cut.{cut_at};
-ghost use Rattle.tw_key_parts.specs.KeyRules.{step_of};
-ghost use Rattle.tw_key_parts.specs.PrefixSearch.{is_prefix_match, newer_edit, newer_match, older_edit, older_match, oldest_edit, prefix_key, prefix_match_at, recalled_after, recalled_edit, shown};
+ghost use Rattle.tw_key_parts.specs.PrefixSearch.{found_by, is_prefix_match, newer_match, older_match, prefix_key, prefix_match_at, recalled_edit};
 
-use crate::edit::Edit;
-use crate::part::KeyPart;
+use crate::edit::{Edit, EditResult, shown};
+use crate::part::{Asked, KeyPart, Step};
 use crate::recalled::{Recalled, line_before_recall, older_index};
 use std::alloc::{AllocError, Global};
-use tw_host::Action;
 use tw_input::{InputEvent, KeyCode, Modifiers};
 use tw_line::{History, LineEditBuffer, SearchDirection};
 
@@ -101,7 +99,7 @@ fn older_match_from<L: History>(
 }
 
 /// Returns the oldest match from an index on.
-#[tactic(auto, using(crate::proofs::StepLemmas::least_steps, crate::proofs::PrefixLemmas::line_count))]
+#[tactic(auto, using(crate::proofs::StepLemmas::least_steps))]
 fn newer_match_from<L: History>(
     alloc: Global,
     lines: &L,
@@ -122,89 +120,52 @@ fn newer_match_from<L: History>(
     Ok(None)
 }
 
-/// Returns the edit that shows a line.
-fn shown(line: LineEditBuffer, recalled: Option<Recalled>) -> Edit<Option<Recalled>>
-    ensures { edit_view (λ note. note) result
-        ≡ shown line recalled }
+/// Returns the line that a key finds, with its index, if it finds one.
+fn found_by<L: History>(
+    alloc: Global,
+    key: PrefixKey,
+    lines: &L,
+    recalled: Option<&Recalled>,
+    editor: &LineEditBuffer,
+) -> Result<Option<(LineEditBuffer, usize)>, AllocError>
+    ensures { IfOk result (λ found. found ≡ found_by key (L.lines lines.now)
+        (option_map (λ recalled. recalled.now) recalled.entry) editor.now) }
 {
-    Edit {
-        line: Some(line),
-        action: Action::InsertChar(0, ' '),
-        note: recalled,
+    match key {
+        PrefixKey::Older => match older_index(recalled, lines) {
+            Some(from) => older_match_from(alloc, lines, editor, from),
+            None => Ok(None),
+        },
+        PrefixKey::Newer => {
+            match recalled.and_then(|recalled| SearchDirection::Forwards.next(recalled.index)) {
+                Some(from) => newer_match_from(alloc, lines, editor, from),
+                None => Ok(None),
+            }
+        }
+        PrefixKey::Oldest => match lines.get(alloc, 0)? {
+            Some(line) => {
+                let end = line.as_str().len();
+                Ok(Some((LineEditBuffer::new(alloc, line.as_str(), end)?, 0)))
+            }
+            None => Ok(None),
+        },
+        PrefixKey::Typed => Ok(None),
     }
 }
 
-/// Returns the edit that shows a match.
-fn recalled_edit(before: LineEditBuffer, found: (LineEditBuffer, usize)) -> Edit<Option<Recalled>>
-    ensures { edit_view (λ note. note) result
-        ≡ recalled_edit before found }
+/// Returns the edit that shows a line that was found, or else the line before the search if the key leads back to it.
+fn recalled_edit(
+    before: LineEditBuffer,
+    found: Option<(LineEditBuffer, usize)>,
+    leads_back: bool,
+) -> Option<Edit<Option<Recalled>>>
+    ensures { option_map (edit_view (λ note. note)) result
+        ≡ recalled_edit before found leads_back }
 {
-    let (line, index) = found;
-    shown(line, Some(Recalled { before, index }))
-}
-
-/// Returns the edit that goes to the next older match.
-fn older_edit<L: History>(
-    alloc: Global,
-    lines: &L,
-    recalled: Option<&Recalled>,
-    editor: &LineEditBuffer,
-) -> Result<Option<Edit<Option<Recalled>>>, AllocError>
-    ensures { IfOk result (λ edit. option_map (edit_view (λ note. note)) edit
-        ≡ older_edit (L.lines lines.now)
-        (option_map (λ recalled. recalled.now) recalled.entry) editor.now) }
-{
-    let Some(from) = older_index(recalled, lines) else {
-        return Ok(None);
-    };
-    let Some(found) = older_match_from(alloc, lines, editor, from)? else {
-        return Ok(None);
-    };
-    let before = line_before_recall(alloc, recalled, editor)?;
-    Ok(Some(recalled_edit(before, found)))
-}
-
-/// Returns the edit that goes to the oldest line, with the cursor at its end.
-fn oldest_edit<L: History>(
-    alloc: Global,
-    lines: &L,
-    recalled: Option<&Recalled>,
-    editor: &LineEditBuffer,
-) -> Result<Option<Edit<Option<Recalled>>>, AllocError>
-    ensures { IfOk result (λ edit. option_map (edit_view (λ note. note)) edit
-        ≡ oldest_edit (L.lines lines.now)
-        (option_map (λ recalled. recalled.now) recalled.entry) editor.now) }
-{
-    let Some(oldest) = lines.get(alloc, 0)? else {
-        return Ok(None);
-    };
-    let line = LineEditBuffer::new(alloc, oldest.as_str(), oldest.as_str().len())?;
-    let before = line_before_recall(alloc, recalled, editor)?;
-    Ok(Some(recalled_edit(before, (line, 0))))
-}
-
-/// Returns the edit that goes to the next newer match, or else to the line before the search.
-fn newer_edit<L: History>(
-    alloc: Global,
-    lines: &L,
-    recalled: Option<&Recalled>,
-    editor: &LineEditBuffer,
-) -> Result<Option<Edit<Option<Recalled>>>, AllocError>
-    ensures { IfOk result (λ edit. option_map (edit_view (λ note. note)) edit
-        ≡ newer_edit (L.lines lines.now)
-        (option_map (λ recalled. recalled.now) recalled.entry) editor.now) }
-{
-    let Some(recalled) = recalled else {
-        return Ok(None);
-    };
-    let before = recalled.before.try_clone(alloc)?;
-    let found = match SearchDirection::Forwards.next(recalled.index) {
-        Some(from) => newer_match_from(alloc, lines, editor, from)?,
-        None => None,
-    };
     match found {
-        Some(found) => Ok(Some(recalled_edit(before, found))),
-        None => Ok(Some(shown(before, None))),
+        Some((line, index)) => Some(shown(line, Some(Recalled { before, index }))),
+        None if leads_back => Some(shown(before, None)),
+        None => None,
     }
 }
 
@@ -245,57 +206,35 @@ impl KeyPart for PrefixSearch {
 
     ghost is_ready = { λ it cut. Unit {0} };
 
-    fn edit<L: History>(
-        &self,
-        alloc: Global,
-        searching: bool,
-        history: &L,
-        event: &InputEvent,
-        line: &LineEditBuffer,
-    ) -> Result<Option<Edit<Option<Recalled>>>, AllocError> {
-        if searching {
+    fn edit<L: History>(&self, alloc: Global, asked: &Asked<'_, L>) -> EditResult<Self::Note> {
+        if asked.searching {
             return Ok(None);
         }
-        let Some(key) = prefix_key(event) else {
+        let Some(key) = prefix_key(asked.event) else {
             return Ok(None);
         };
         let recalled = self.recalled.as_ref();
-        match key {
-            PrefixKey::Older => older_edit(alloc, history, recalled, line),
-            PrefixKey::Newer => newer_edit(alloc, history, recalled, line),
-            PrefixKey::Oldest => oldest_edit(alloc, history, recalled, line),
-            PrefixKey::Typed => match recalled {
-                Some(recalled) => Ok(Some(shown(recalled.before.try_clone(alloc)?, None))),
-                None => Ok(None),
-            },
+        let leads_back = recalled.is_some() && matches!(key, PrefixKey::Newer | PrefixKey::Typed);
+        let found = found_by(alloc, key, asked.history, recalled, asked.line)?;
+        if found.is_none() && !leads_back {
+            return Ok(None);
         }
+        let before = line_before_recall(alloc, recalled, asked.line)?;
+        Ok(recalled_edit(before, found, leads_back))
     }
 
     fn prepare(&mut self, _alloc: Global, _line: &LineEditBuffer) -> Result<(), AllocError> {
         Ok(())
     }
 
-    fn follow(
-        &mut self,
-        _alloc: Global,
-        note: Option<Option<Recalled>>,
-        _searching: bool,
-        event: &InputEvent,
-        _before: &LineEditBuffer,
-        _after: &LineEditBuffer,
-        action: Option<&Action>,
-    )
-        requires ready { Unit {0} }
-        ensures { self.new.recalled
-            ≡ recalled_after self.old.recalled (option_map (λ note. note) note)
-            (step_of (event_view event.now) _searching _before.now _after.now
-            (lent_action action.entry)) }
-    {
-        match note {
-            Some(recalled) => self.recalled = recalled,
-            None if action.is_some() || prefix_key(event).is_none() => self.recalled = None,
-            None => {}
+    fn follow(&mut self, _alloc: Global, step: &Step<'_>) {
+        if step.action.is_some() || prefix_key(step.event).is_none() {
+            self.recalled = None;
         }
+    }
+
+    fn follow_own(&mut self, _alloc: Global, note: Option<Recalled>, _step: &Step<'_>) {
+        self.recalled = note;
     }
 
     fn leave_line(&mut self) {

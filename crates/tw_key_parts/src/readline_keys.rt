@@ -2,20 +2,25 @@
 
 ghost use Rattle.std.specs.Prelude.{◌≡◌, option_map};
 ghost use Rattle.tw_host.specs.ActionView.{action_view};
+ghost use Rattle.tw_input.specs.EventView.{event_view};
 ghost use Rattle.tw_key_parts.specs.ReadlineKeys.{readline_key};
 
-use crate::edit::Edit;
+use crate::edit::{EditResult, in_place};
+use crate::part::Asked;
 use crate::plain_keys::PlainKeys;
-use std::alloc::{AllocError, Global};
+use std::alloc::Global;
 use tw_host::Action;
-use tw_input::{InputEvent, KeyCode, KeyEvent, Modifiers};
+use tw_input::{InputEvent, KeyCode, Modifiers};
 use tw_line::{History, LineEditBuffer, Movement};
 
-/// Returns the action of a key of readline in a line.
-pub fn readline_key(key: KeyEvent, editor: &LineEditBuffer) -> Option<Action>
-    ensures { option_map action_view result ≡ readline_key key editor.now }
+/// Returns the action of an event in a line, if it is a key of readline.
+fn readline_key(event: &InputEvent, editor: &LineEditBuffer) -> Option<Action>
+    ensures { option_map action_view result ≡ readline_key (event_view event.now) editor.now }
 {
-    match (key.modifiers, key.key) {
+    let InputEvent::Key(press) = event else {
+        return None;
+    };
+    match (press.modifiers, press.key) {
         (Modifiers::CTRL, KeyCode::Char('U')) => Some(Action::Kill(Movement::StartOfLine)),
         (Modifiers::CTRL, KeyCode::Char('D')) if !editor.get_line().is_empty() => {
             Some(Action::KillAndMove(Movement::ForwardChar(1), Movement::None))
@@ -41,22 +46,7 @@ impl PlainKeys for ReadlineKeys {
 
     ghost edits = { readline_edit };
 
-    fn edit<L: History>(
-        &self,
-        _alloc: Global,
-        _searching: bool,
-        _history: &L,
-        event: &InputEvent,
-        line: &LineEditBuffer,
-    ) -> Result<Option<Edit<()>>, AllocError> {
-        let action = match event {
-            InputEvent::Key(key) => readline_key(*key, line),
-            _ => None,
-        };
-        Ok(action.map(|action| Edit {
-            line: None,
-            action,
-            note: (),
-        }))
+    fn edit<L: History>(&self, _alloc: Global, asked: &Asked<'_, L>) -> EditResult<()> {
+        Ok(in_place(readline_key(asked.event, asked.line), ()))
     }
 }

@@ -6,12 +6,11 @@ ghost use Rattle.std.specs.Vec.{vec_capacity, vec_len};
 ghost use Rattle.tw_input.specs.EventView.{event_view};
 ghost use Rattle.tw_key_parts.specs.EditView.{edit_view, lent_action};
 ghost use Rattle.tw_key_parts.specs.declared.ring.Latest.TheVariants as Latest;
-ghost use Rattle.tw_key_parts.specs.Ring.{IsReady, index_below, is_same_cut, killing, newest_kill, ring_view, ring_follows, rotated, taken_out, with_killed, with_killing, yank_edit, yank_of};
-ghost use Rattle.tw_key_parts.specs.KeyRules.{step_of};
+ghost use Rattle.tw_key_parts.specs.Ring.{index_below, is_same_cut, killing, newest_kill, ring_view, rotated, taken_out, with_killed, yank_edit, yank_of};
 
-use crate::edit::Edit;
+use crate::edit::{Edit, EditResult};
 use crate::keys::{deletes_character, is_key, key_of};
-use crate::part::KeyPart;
+use crate::part::{Asked, KeyPart, Step};
 use std::alloc::{AllocError, Global};
 use tw_host::Action;
 use tw_input::{InputEvent, Modifiers};
@@ -64,6 +63,7 @@ fn killing(event: &InputEvent, action: Option<&Action>) -> Option<Movement>
 }
 
 /// Removes a text before the cursor, if it is there.
+#[tactic(auto, using(std::proofs::lemmas::Str::Pattern::ends_text))]
 fn taken_out(
     alloc: Global,
     text: &str,
@@ -72,9 +72,10 @@ fn taken_out(
     ensures { IfOk result (λ line. line ≡ taken_out editor.now text.now) }
 {
     let (before, behind) = editor.get_line().split_at(editor.get_cursor());
-    let Some(rest) = before.strip_suffix(text) else {
+    if !before.ends_with(text) {
         return Ok(None);
-    };
+    }
+    let (rest, _) = before.split_at(before.len() - text.len());
     let mut line = LineEditBuffer::new(alloc, behind, 0)?;
     line.insert_text(rest)?;
     Ok(Some(line))
@@ -128,31 +129,8 @@ impl KillRing {
         }
     }
 
-    /// Keeps what a movement kills; `None` ends a run of kills or yanks.
-    fn kill(&mut self, alloc: Global, movement: Option<Movement>)
-        requires { IsReady self.old self.old.probe }
-        ensures { ring_view self.new ≡ with_killing movement self.old.probe (ring_view self.old) }
-    {
-        let Some(movement) = movement else {
-            self.latest = Latest::Other;
-            return;
-        };
-        let text = std::mem::replace(&mut self.spare, String::new(alloc));
-        let mut line = std::mem::replace(&mut self.probe, LineEditBuffer::empty(alloc));
-        let from = line.get_cursor();
-        line.exec_movement(movement);
-        let to = line.get_cursor();
-        let killed = &line.get_line()[from.min(to)..from.max(to)];
-        self.take_in(from < to, killed, text);
-    }
-
     /// Yanks the kill with an index into a line.
-    fn yank(
-        &self,
-        alloc: Global,
-        index: usize,
-        line: LineEditBuffer,
-    ) -> Result<Option<Edit<usize>>, AllocError>
+    fn yank(&self, alloc: Global, index: usize, line: LineEditBuffer) -> EditResult<usize>
         ensures { IfOk result (λ edit. option_map (edit_view (λ index. index)) edit
             ≡ option_map yank_edit (yank_of (map string_bytes self.now.kills.items) index line)) }
     {
@@ -177,11 +155,7 @@ impl KillRing {
     }
 
     /// Replaces the last yank by the kill before.
-    fn rotate(
-        &self,
-        alloc: Global,
-        editor: &LineEditBuffer,
-    ) -> Result<Option<Edit<usize>>, AllocError>
+    fn rotate(&self, alloc: Global, editor: &LineEditBuffer) -> EditResult<usize>
         ensures { IfOk result (λ edit. option_map (edit_view (λ index. index)) edit
             ≡ option_map yank_edit
             (rotated (map string_bytes self.now.kills.items) self.now.latest editor.now)) }
@@ -217,22 +191,15 @@ impl KeyPart for KillRing {
 
     ghost is_ready = { IsReady };
 
-    fn edit<L: History>(
-        &self,
-        alloc: Global,
-        searching: bool,
-        _history: &L,
-        event: &InputEvent,
-        line: &LineEditBuffer,
-    ) -> Result<Option<Edit<usize>>, AllocError> {
-        if searching {
+    fn edit<L: History>(&self, alloc: Global, asked: &Asked<'_, L>) -> EditResult<usize> {
+        if asked.searching {
             return Ok(None);
         }
-        if is_key(key_of(Modifiers::CTRL, 'Y'), event) {
+        if is_key(key_of(Modifiers::CTRL, 'Y'), asked.event) {
             let newest = self.kills.len().saturating_sub(1);
-            self.yank(alloc, newest, line.try_clone(alloc)?)
-        } else if is_key(key_of(Modifiers::ALT, 'y'), event) {
-            self.rotate(alloc, line)
+            self.yank(alloc, newest, asked.line.try_clone(alloc)?)
+        } else if is_key(key_of(Modifiers::ALT, 'y'), asked.event) {
+            self.rotate(alloc, asked.line)
         } else {
             Ok(None)
         }
@@ -247,27 +214,26 @@ impl KeyPart for KillRing {
         Ok(())
     }
 
-    fn follow(
-        &mut self,
-        alloc: Global,
-        note: Option<usize>,
-        searching: bool,
-        event: &InputEvent,
-        before: &LineEditBuffer,
-        after: &LineEditBuffer,
-        action: Option<&Action>,
-    )
-        requires ready { IsReady self.old before.now }
-        ensures { ring_view self.new
-            ≡ ring_follows (ring_view self.old) (option_map (λ index. index) note)
-            (step_of (event_view event.now) searching before.now after.now
-            (lent_action action.entry)) }
-    {
-        match note {
-            Some(index) => self.latest = Latest::Yank(index),
-            None if searching || !is_same_cut(before, after) => self.kill(alloc, None),
-            None => self.kill(alloc, killing(event, action)),
+    fn follow(&mut self, alloc: Global, step: &Step<'_>) {
+        if step.searching || !is_same_cut(step.before, step.after) {
+            self.latest = Latest::Other;
+            return;
         }
+        let Some(movement) = killing(step.event, step.action) else {
+            self.latest = Latest::Other;
+            return;
+        };
+        let text = std::mem::replace(&mut self.spare, String::new(alloc));
+        let mut line = std::mem::replace(&mut self.probe, LineEditBuffer::empty(alloc));
+        let from = line.get_cursor();
+        line.exec_movement(movement);
+        let to = line.get_cursor();
+        let killed = &line.get_line()[from.min(to)..from.max(to)];
+        self.take_in(from < to, killed, text);
+    }
+
+    fn follow_own(&mut self, _alloc: Global, index: usize, _step: &Step<'_>) {
+        self.latest = Latest::Yank(index);
     }
 
     fn leave_line(&mut self) {

@@ -1,15 +1,14 @@
 //! Keys for lines of several rows.
 
 ghost use Rattle.std.specs.Prelude.{◌≡◌, ◌≤◌, ◌<◌, ◌+◌, ◌-◌, IfOk, IfSome, IsCharBoundary, length, option_map, string_bytes};
-ghost use Rattle.std.specs.Option.{option_flatten};
 ghost use Rattle.tw_host.specs.ActionView.{action_view};
 ghost use Rattle.tw_input.specs.EventView.{event_view};
 ghost use Rattle.tw_key_parts.specs.EditView.{edit_view};
 ghost use Rattle.tw_key_parts.specs.declared.steps.Way.TheVariants as Way;
-ghost use Rattle.tw_key_parts.specs.RowKeys.{edit_by, edit_of_pattern, goal_column, has_reached, has_rows, in_one_row, killed_to_end, move_to, place_beside, edge_of_row, row_edit, row_end, row_key, row_start, steps_to};
+ghost use Rattle.tw_key_parts.specs.RowKeys.{edit_by, edit_of_pattern, goal_column, has_rows, in_one_row, killed_to_end, move_to, place_beside, edge_of_row, row_end, row_key, row_start, steps_to};
 
-use crate::edit::Edit;
-use crate::part::KeyPart;
+use crate::edit::{EditResult, in_place};
+use crate::part::{Asked, KeyPart, Step};
 use crate::steps::{Way, cluster_steps};
 use std::alloc::{AllocError, Global};
 use tw_host::Action;
@@ -54,6 +53,7 @@ pub fn row_key(event: &InputEvent) -> Option<RowKey>
 }
 
 /// Returns the start of the row of an offset: after the last line feed before it.
+#[tactic(auto, using(crate::proofs::StepLemmas::text_starts))]
 fn row_start(line: &str, at: usize) -> usize
     requires { IsCharBoundary line.now at }
     ensures value { result ≡ row_start line.now at }
@@ -80,16 +80,6 @@ fn row_end(line: &str, at: usize) -> usize
     }
 }
 
-/// Returns true if an offset is `to`, or further on the way.
-fn has_reached(way: Way, to: usize, at: usize) -> bool
-    ensures { result ≡ has_reached way to at }
-{
-    match way {
-        Way::Back => at <= to,
-        Way::Ahead => to <= at,
-    }
-}
-
 /// Returns the number of grapheme clusters from the cursor to an offset.
 #[tactic(auto, using(crate::proofs::StepLemmas::walks))]
 fn steps_to(
@@ -103,7 +93,11 @@ fn steps_to(
     let mut walker = editor.try_clone(alloc)?;
     let most = editor.get_line().len();
     for count in 0..most {
-        if has_reached(way, to, walker.get_cursor()) {
+        let has_reached = match way {
+            Way::Back => walker.get_cursor() <= to,
+            Way::Ahead => to <= walker.get_cursor(),
+        };
+        if has_reached {
             return Ok(count);
         }
         walker.exec_movement(cluster_steps(way, 1));
@@ -193,32 +187,17 @@ fn in_one_row(alloc: Global, text: &str) -> Result<String, AllocError>
 }
 
 /// Returns the edit of an event during a search, whose pattern has one row: a pasted text of several rows is joined.
-fn edit_of_pattern(
-    alloc: Global,
-    event: &InputEvent,
-) -> Result<Option<Edit<Option<usize>>>, AllocError>
+fn edit_of_pattern(alloc: Global, event: &InputEvent) -> EditResult<Option<usize>>
     ensures { IfOk result (λ edit. option_map (edit_view (λ note. note)) edit
         ≡ edit_of_pattern (event_view event.now)) }
 {
     match event {
         InputEvent::Paste(text) if has_rows(text.as_str()) => {
             let row = in_one_row(alloc, text.as_str())?;
-            Ok(row_edit(None, Some(Action::InsertText(1, row))))
+            Ok(in_place(Some(Action::InsertText(1, row)), None))
         }
         _ => Ok(None),
     }
-}
-
-/// Returns an action as an edit that leaves the line, and the column that it keeps.
-fn row_edit(kept: Option<usize>, action: Option<Action>) -> Option<Edit<Option<usize>>>
-    ensures { option_map (edit_view (λ note. note)) result
-        ≡ row_edit kept (option_map action_view action) }
-{
-    action.map(|action| Edit {
-        line: None,
-        action,
-        note: kept,
-    })
 }
 
 /// Keys for lines of several rows: Alt-Enter begins a row. Up and Down, Ctrl-P and Ctrl-N go to the row
@@ -260,21 +239,21 @@ impl RowKeys {
         alloc: Global,
         key: RowKey,
         line: &LineEditBuffer,
-    ) -> Result<Option<Edit<Option<usize>>>, AllocError>
+    ) -> EditResult<Option<usize>>
         ensures { IfOk result (λ edit. option_map (edit_view (λ note. note)) edit
             ≡ edit_by key self.now.goal line.now) }
     {
         match key {
-            RowKey::Break => Ok(row_edit(None, Some(Action::InsertChar(1, '\n')))),
+            RowKey::Break => Ok(in_place(Some(Action::InsertChar(1, '\n')), None)),
             RowKey::ToRow(way) => {
                 let column = self.goal_column(alloc, line)?;
                 let place = place_beside(alloc, way, column, line)?;
-                Ok(row_edit(Some(column), move_to(alloc, way, place, line)?))
+                Ok(in_place(move_to(alloc, way, place, line)?, Some(column)))
             }
             RowKey::ToEdge(way) => {
-                Ok(row_edit(None, move_to(alloc, way, edge_of_row(way, line), line)?))
+                Ok(in_place(move_to(alloc, way, edge_of_row(way, line), line)?, None))
             }
-            RowKey::KillToEnd => Ok(row_edit(None, killed_to_end(alloc, line)?)),
+            RowKey::KillToEnd => Ok(in_place(killed_to_end(alloc, line)?, None)),
         }
     }
 }
@@ -297,19 +276,12 @@ impl KeyPart for RowKeys {
 
     ghost is_ready = { λ it cut. Unit {0} };
 
-    fn edit<L: History>(
-        &self,
-        alloc: Global,
-        searching: bool,
-        _history: &L,
-        event: &InputEvent,
-        line: &LineEditBuffer,
-    ) -> Result<Option<Edit<Option<usize>>>, AllocError> {
-        if searching {
-            return edit_of_pattern(alloc, event);
+    fn edit<L: History>(&self, alloc: Global, asked: &Asked<'_, L>) -> EditResult<Option<usize>> {
+        if asked.searching {
+            return edit_of_pattern(alloc, asked.event);
         }
-        match row_key(event) {
-            Some(key) => self.edit_by(alloc, key, line),
+        match row_key(asked.event) {
+            Some(key) => self.edit_by(alloc, key, asked.line),
             None => Ok(None),
         }
     }
@@ -318,20 +290,12 @@ impl KeyPart for RowKeys {
         Ok(())
     }
 
-    fn follow(
-        &mut self,
-        _alloc: Global,
-        note: Option<Option<usize>>,
-        _searching: bool,
-        event: &InputEvent,
-        _before: &LineEditBuffer,
-        _after: &LineEditBuffer,
-        _action: Option<&Action>,
-    )
-        requires ready { Unit {0} }
-        ensures { self.new.goal ≡ option_flatten (option_map (λ note. note) note) }
-    {
-        self.goal = note.flatten();
+    fn follow(&mut self, _alloc: Global, _step: &Step<'_>) {
+        self.goal = None;
+    }
+
+    fn follow_own(&mut self, _alloc: Global, column: Option<usize>, _step: &Step<'_>) {
+        self.goal = column;
     }
 
     fn leave_line(&mut self) {

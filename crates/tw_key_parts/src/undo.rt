@@ -1,16 +1,13 @@
 //! Undo.
 
-ghost use Rattle.std.specs.Prelude.{◌≡◌, ◌<◌, IfSome, length, option_map};
-ghost use Rattle.std.specs.Vec.{vec_capacity, vec_len};
-ghost use Rattle.tw_host.specs.ActionView.{action_view};
+ghost use Rattle.std.specs.Prelude.{◌≡◌, ◌<◌, IfSome, length};
 ghost use Rattle.tw_input.specs.EventView.{event_view};
 ghost use Rattle.tw_key_parts.specs.EditView.{lent_action};
-ghost use Rattle.tw_key_parts.specs.Undo.{begins_step, is_edit, is_same_line, is_undo, last_change, types_character, no_steps, typing_after, undo_follows, undo_view};
-ghost use Rattle.tw_key_parts.specs.KeyRules.{step_of};
+ghost use Rattle.tw_key_parts.specs.Undo.{begins_step, is_undo, last_change, no_steps, undo_view};
 
-use crate::edit::Edit;
+use crate::edit::{EditResult, shown};
 use crate::keys::{is_key, key_of};
-use crate::part::KeyPart;
+use crate::part::{Asked, KeyPart, Step};
 use std::alloc::{AllocError, Global};
 use tw_host::Action;
 use tw_input::{InputEvent, Modifiers};
@@ -29,21 +26,14 @@ pub struct UndoSteps {
     spare: LineEditBuffer,
 }
 
-/// Compares two lines.
-fn is_same_line(editor: &LineEditBuffer, other: &LineEditBuffer) -> bool
-    ensures { result ≡ is_same_line editor.now other.now }
+/// Returns true if a step begins: an edit that does not continue a run of typing, or a change of the line.
+fn begins_step(action: Option<&Action>, is_same: bool, typing: bool) -> bool
+    ensures { result ≡ begins_step (lent_action action.entry) is_same typing }
 {
-    editor.get_line() == other.get_line()
-}
-
-/// Returns true for an action that changes the line, or searches.
-fn is_edit(action: &Action) -> bool
-    ensures { result ≡ is_edit (action_view action.now) }
-{
-    matches!(
-        action,
-        Action::InsertChar(_, _)
-            | Action::InsertText(_, _)
+    match action {
+        Some(Action::InsertChar(_, _)) => !(typing && is_same),
+        Some(
+            Action::InsertText(_, _)
             | Action::Kill(_)
             | Action::KillAndMove(_, _)
             | Action::HistoryPrevious
@@ -51,32 +41,9 @@ fn is_edit(action: &Action) -> bool
             | Action::Complete
             | Action::HistoryIncSearchBackwards
             | Action::HistoryIncSearchForwards,
-    )
-}
-
-/// Returns true for an action that types a character.
-fn types_character(action: &Action) -> bool
-    ensures { result ≡ types_character (action_view action.now) }
-{
-    matches!(action, Action::InsertChar(_, _))
-}
-
-/// Returns true if the last step is a run of typed characters that may go on.
-fn typing_after(action: Option<&Action>, typing: bool) -> bool
-    ensures { result ≡ typing_after (lent_action action.entry) typing }
-{
-    match action {
-        None | Some(Action::NoAction | Action::Repaint) => typing,
-        Some(action) => types_character(action),
+        ) => true,
+        _ => !is_same,
     }
-}
-
-/// Returns true if a step begins: an edit that does not continue a run of typing, or a change of the line.
-fn begins_step(action: Option<&Action>, is_same: bool, typing: bool) -> bool
-    ensures { result ≡ begins_step (lent_action action.entry) is_same typing }
-{
-    let goes_on = typing && action.is_some_and(types_character) && is_same;
-    (action.is_some_and(is_edit) || !is_same) && !goes_on
 }
 
 impl UndoSteps {
@@ -107,7 +74,7 @@ impl UndoSteps {
         ensures inside { IfSome result (λ at. at < length self.now.before.items) }
     {
         for at in (0..self.before.len()).rev() {
-            if !is_same_line(&self.before[at], line) {
+            if self.before[at].get_line() != line.get_line() {
                 return Some(at);
             }
         }
@@ -135,26 +102,15 @@ impl KeyPart for UndoSteps {
     ghost is_ready = { λ it cut. (it.spare ≡ cut) × (vec_len it.before < vec_capacity it.before) };
 
     #[tactic(auto, using(std::proofs::lemmas::List::get_or_read))]
-    fn edit<L: History>(
-        &self,
-        alloc: Global,
-        searching: bool,
-        _history: &L,
-        event: &InputEvent,
-        line: &LineEditBuffer,
-    ) -> Result<Option<Edit<usize>>, AllocError> {
-        if !self.is_undo(event) || searching {
+    fn edit<L: History>(&self, alloc: Global, asked: &Asked<'_, L>) -> EditResult<usize> {
+        if asked.searching || !self.is_undo(asked.event) {
             return Ok(None);
         }
-        let (left, undone) = match self.last_change(line) {
+        let (left, undone) = match self.last_change(asked.line) {
             Some(at) => (at, &self.before[at]),
-            None => (0, line),
+            None => (0, asked.line),
         };
-        Ok(Some(Edit {
-            line: Some(undone.try_clone(alloc)?),
-            action: Action::InsertChar(0, ' '),
-            note: left,
-        }))
+        Ok(Some(shown(undone.try_clone(alloc)?, left)))
     }
 
     fn prepare(&mut self, alloc: Global, line: &LineEditBuffer) -> Result<(), AllocError> {
@@ -163,42 +119,28 @@ impl KeyPart for UndoSteps {
         Ok(())
     }
 
-    fn follow(
-        &mut self,
-        alloc: Global,
-        note: Option<usize>,
-        searching: bool,
-        event: &InputEvent,
-        before: &LineEditBuffer,
-        after: &LineEditBuffer,
-        action: Option<&Action>,
-    )
-        requires ready { (self.old.spare ≡ before.now)
-            × (vec_len self.old.before < vec_capacity self.old.before) }
-        ensures { undo_view self.new
-            ≡ undo_follows (undo_view self.old) (option_map (λ left. left) note)
-            (step_of (event_view event.now) searching before.now after.now
-            (lent_action action.entry)) }
-    {
-        match note {
-            Some(left) => {
-                self.before.truncate(left);
-                self.typing = false;
-                self.prefixed = false;
-            }
-            None => {
-                let is_same = !searching && is_same_line(before, after);
-                let begins = begins_step(action, is_same, self.typing);
-                self.typing = typing_after(action, self.typing) && is_same;
-                self.prefixed = action.is_none() && is_key(key_of(Modifiers::CTRL, 'X'), event);
-                if action.is_some_and(Action::ends_line) {
-                    self.before.clear();
-                } else if begins && !searching {
-                    let line = std::mem::replace(&mut self.spare, LineEditBuffer::empty(alloc));
-                    self.before.push(line).unwrap();
-                }
-            }
+    fn follow(&mut self, alloc: Global, step: &Step<'_>) {
+        let action = step.action;
+        let is_same = !step.searching && step.before.get_line() == step.after.get_line();
+        let begins = begins_step(action, is_same, self.typing);
+        self.typing = is_same
+            && match action {
+                None | Some(Action::NoAction | Action::Repaint) => self.typing,
+                Some(action) => matches!(action, Action::InsertChar(_, _)),
+            };
+        self.prefixed = action.is_none() && is_key(key_of(Modifiers::CTRL, 'X'), step.event);
+        if action.is_some_and(Action::ends_line) {
+            self.before.clear();
+        } else if begins && !step.searching {
+            let line = std::mem::replace(&mut self.spare, LineEditBuffer::empty(alloc));
+            self.before.push(line).unwrap();
         }
+    }
+
+    fn follow_own(&mut self, _alloc: Global, left: usize, _step: &Step<'_>) {
+        self.before.truncate(left);
+        self.typing = false;
+        self.prefixed = false;
     }
 
     fn leave_line(&mut self) {

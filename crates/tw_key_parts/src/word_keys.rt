@@ -2,15 +2,13 @@
 
 ghost use Rattle.std.specs.Prelude.{◌≡◌, IfOk};
 ghost use Rattle.tw_input.specs.EventView.{event_view};
-ghost use Rattle.tw_key_parts.specs.WordKeys.{edited_cut, word_edit};
+ghost use Rattle.tw_key_parts.specs.WordEdits.{edited_cut, word_edit};
 
-use crate::cases::{WordCase, with_word_in};
-use crate::edit::Edit;
+use crate::edit::{EditResult, shown};
+use crate::part::Asked;
 use crate::plain_keys::PlainKeys;
-use crate::swaps::with_swapped_clusters;
-use crate::word_swaps::with_swapped_words;
+use crate::word_edits::{WordCase, with_swapped_clusters, with_swapped_words, with_word_in};
 use std::alloc::{AllocError, Global};
-use tw_host::Action;
 use tw_input::{InputEvent, KeyCode, Modifiers};
 use tw_line::{History, LineEditBuffer};
 
@@ -64,27 +62,16 @@ pub fn edited_line(
 pub struct WordKeys;
 
 impl PlainKeys for WordKeys {
-    ghost use Rattle.tw_key_parts.specs.WordKeys.{word_key_edit};
+    ghost use Rattle.tw_key_parts.specs.WordEdits.{word_key_edit};
 
     ghost edits = { word_key_edit };
 
-    fn edit<L: History>(
-        &self,
-        alloc: Global,
-        searching: bool,
-        _history: &L,
-        event: &InputEvent,
-        line: &LineEditBuffer,
-    ) -> Result<Option<Edit<()>>, AllocError> {
-        if searching {
+    fn edit<L: History>(&self, alloc: Global, asked: &Asked<'_, L>) -> EditResult<()> {
+        if asked.searching {
             return Ok(None);
         }
-        match word_edit(event) {
-            Some(edit) => Ok(Some(Edit {
-                line: Some(edited_line(alloc, edit, line)?),
-                action: Action::InsertChar(0, ' '),
-                note: (),
-            })),
+        match word_edit(asked.event) {
+            Some(edit) => Ok(Some(shown(edited_line(alloc, edit, asked.line)?, ()))),
             None => Ok(None),
         }
     }

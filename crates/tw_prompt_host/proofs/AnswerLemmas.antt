@@ -1,5 +1,5 @@
 -- An answer of parts that are the same.
-use Rattle.std.proofs.Common.{◌≡◌, ◌&&◌, ℕ, Bool, List, Option, Some, None, option_map, ap, refl}
+use Rattle.std.proofs.Common.{◌≡◌, ◌&&◌, ℕ, Bool, List, Option, Some, None, option_map, unwrap_or, ap, refl}
 use Rattle.std.specs.Borrow.{Bor}
 use Rattle.std.specs.Option.{option_copied}
 use Rattle.tw_line.specs.Cut.{Cut}
@@ -9,18 +9,22 @@ use Rattle.tw_host.specs.HostRules.{HostRules, or_default}
 use Rattle.tw_host.specs.KeyTable.{action_of}
 use Rattle.tw_key_parts.specs.KeyRules.{KeyRules}
 use Rattle.tw_prompt_host.specs.Going.{event_line}
-use Rattle.tw_prompt_host.specs.MenuState.{MenuView}
 use Rattle.tw_prompt_host.specs.FailingSearch.{fails_after}
-use Rattle.tw_prompt_host.specs.PromptRules.{Answer, Prompted, event_answer, is_kept, judged, prompt_rules, turn_taken_at}
-use Rattle.tw_prompt_host.specs.Validation.{is_accepting}
+use Rattle.tw_prompt_host.specs.PromptRules.{Answer, Prompted, event_answer, is_kept, judged, prompt_rules, turn_taken_at, is_accepting}
+use Rattle.tw_prompt_host.specs.declared.menu.Menu.{Menu}
 
 -- what is lent is seen as it is
 pub seen : {X Y : Type 0} (f : X → Y) (r : Option (Bor X)) (o : Option X) → option_copied r ≡ o → option_map (λ x. f x.now) r ≡ option_map f o
 seen f None o e = ap (option_map f) e
 seen f (Some x) o e = ap (option_map f) e
 
+-- and so it is where something else is lent in its place
+pub lent_or : {X : Type 0} (r : Option (Bor X)) (o : Option X) (other : Bor X) → option_copied r ≡ o → (unwrap_or r other).now ≡ unwrap_or o other.now
+lent_or None o other e = ap (λ o. unwrap_or o other.now) e
+lent_or (Some x) o other e = ap (λ o. unwrap_or o other.now) e
+
 -- what is done of an answer, where all parts of it are as told
-pub resolved_as : {V S K : Type 0} (keys : KeyRules S K) (rules : HostRules V) (v w : Prompted V S) (event : EventView) (cut line : Cut) (answer : Answer K) (turn : Option MenuView) (keeps fails : Bool) (text : List ℕ) (default : Option ActionView)
+pub resolved_as : {V S K : Type 0} (keys : KeyRules S K) (rules : HostRules V) (v w : Prompted V S) (event : EventView) (cut line : Cut) (answer : Answer K) (turn : Option Menu) (keeps fails : Bool) (text : List ℕ) (default : Option ActionView)
     → line ≡ event_line v.going cut → w ≡ record v { host = (rules.resolve v.host event line).value }
     → answer ≡ event_answer keys rules v event line → turn ≡ turn_taken_at keys rules v event line → keeps ≡ is_kept keys rules v text → text ≡ line.line
     → fails ≡ (v.stops_failing_searches && fails_after v.lines v.going.searching default line) → default ≡ action_of event

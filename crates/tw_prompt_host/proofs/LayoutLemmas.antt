@@ -1,5 +1,6 @@
--- The cells of a page, and the text of one.
+-- The cells of a page, the text of one, and a part of some candidates.
 use Rattle.std.proofs.Common.{◌≡◌, ◌∙◌, ℕ, zero, suc, ◌+◌, ◌-◌, ◌<◌, ◌≤◌, List, [], ◌∷◌, ◌++◌, get_or, length, map, string_bytes, refl, ap, arith}
+use Rattle.std.proofs.lemmas.List.{drop-map, take-map}
 use Rattle.tw_host.specs.CandidateView.{candidate_view}
 use Rattle.tw_host.specs.ElementView.{ElementView}
 use Rattle.tw_host.specs.declared.host.CompletionCandidate.{CompletionCandidate}
@@ -19,3 +20,6 @@ cells-more cell start at count low e =
     let more : at + 1 - start ≡ suc count = omega (arith, e) in
     let last : start + count ≡ at = omega (arith, e) in
     ap (cells_from cell start) more ∙ ap (λ n. cells_from cell start count ++ cell n) last
+
+-- a part of some candidates is seen as that part
+pub ruleset part_seen = (drop-map, take-map)

@@ -6,6 +6,5 @@ pub mod LayoutLemmas
 pub mod PreparedLemmas
 pub mod HintLemmas
 pub mod SearchLemmas
-pub mod MenuLemmas
 pub mod AnswerLemmas
 pub mod RowLemmas

@@ -1,8 +1,8 @@
 -- Texts and elements in rows.
-use Rattle.std.proofs.Common.{◌≡◌, ◌≢◌, ℕ, zero, suc, ◌+◌, ◌<◌, ◌≤◌, ◌||◌, eqb, Bool, true, false, not, List, [], ◌∷◌, ◌++◌, length, take, drop, get_or, Option, Some, None, refl, ap, sym, ◌∙◌, arith, append_assoc, append-nil, length-append, subst, take-append-drop}
+use Rattle.std.proofs.Common.{◌≡◌, ◌≢◌, ℕ, suc, ◌+◌, ◌<◌, ◌≤◌, ◌||◌, eqb, Bool, true, false, not, List, [], ◌∷◌, ◌++◌, length, take, drop, get_or, Option, Some, None, refl, ap, sym, ◌∙◌, arith, append_assoc, append-nil, length-append, subst, take-append-drop}
 use Rattle.std.specs.List.{list_all}
 use Rattle.std.proofs.Math.Bool.{or-false}
-use Rattle.std.proofs.lemmas.Bool.{and_from, and_parts, eq-eqb, ne_eqb, true≢false}
+use Rattle.std.proofs.lemmas.Bool.{and_from, and_parts, ne_eqb, not-true}
 use Rattle.std.proofs.lemmas.List.{length-take-le, take_all}
 use Rattle.std.proofs.lemmas.List.Folds.{list_all-append}
 use Rattle.std.proofs.lemmas.Str.Pattern.{NoCharPasses-char}
@@ -13,26 +13,24 @@ use Rattle.tw_surface.specs.declared.cell.CellAttributes.{CellAttributes}
 use Rattle.tw_line.specs.Cut.{Cut, at_end}
 use Rattle.tw_host.specs.ElementView.{ElementView, Attribute, AllAttributes, Text}
 use Rattle.tw_host.specs.Faithful.{text_of_elements}
-use Rattle.tw_hosts.specs.SettledRules.{PromptScreenView, column_on}
+use Rattle.tw_hosts.specs.Settling.{PromptScreenView, column_on}
 use Rattle.tw_hosts.proofs.SettlingLemmas.{printable_is_plain}
-use Rattle.tw_prompt_host.specs.Rows.{RowView, before_row, before_rows, break_elements, columns_behind, elements_from, elements_of_rows, empty_first_row, is_row_character, last_shown, next_row, row_behind, row_break, row_columns, row_edge, row_with, rows_of_text, spread, spread_cut, spread_from}
-use Rattle.tw_prompt_host.specs.RowLaws.{ArePrintablePrompts, ElementsAreSpread, OneRowIsSettled, PrintableCutIsShown, PrintableIsShown, PrintableIsSpread, is_one_row}
+use Rattle.tw_prompt_host.specs.Rows.{RowView, before_row, before_rows, break_elements, columns_behind, elements_from, elements_of_rows, empty_first_row, is_row_character, last_shown, next_row, row_behind, row_break, row_columns, row_edge, row_with, rows_of_text, spread, spread_cut, spread_from, ArePrintablePrompts, ElementsAreSpread, OneRowIsSettled, PrintableCutIsShown, PrintableIsShown, PrintableIsSpread, is_one_row}
 
 -- ---- pieces of a text between line feeds
 
--- a text with no line feed
-abbrev pub HasNoFeed : List ℕ → Type 0
-HasNoFeed text = (i : ℕ) → i < length text → get_or text i 0 ≢ lf
-
-first-other : (b : ℕ) (text : List ℕ) → HasNoFeed (b ∷ text) → eqb b lf ≡ false
-first-other b text none = ne_eqb b lf (none 0 (omega arith))
-
-rest-none : (b : ℕ) (text : List ℕ) → HasNoFeed (b ∷ text) → HasNoFeed text
-rest-none b text none i inside = none (suc i) (omega (arith, inside))
+-- a text has no line feed if no byte is one
+pub no-feed : (text : List ℕ) → ((i : ℕ) → i < length text → get_or text i 0 ≢ lf) → is_one_row text ≡ true
+no-feed [] none = refl
+no-feed (b ∷ text) none = rw (ne_eqb b lf (none 0 (omega arith))) (no-feed text (λ i inside. none (suc i) (omega (arith, inside))))
 
 -- as a search for line feeds finds it
-no-feed-in : (text : List ℕ) → NoCharPasses (λ d. eqb d lf) text → HasNoFeed text
-no-feed-in text none i inside = NoCharPasses-char lf text i none (omega arith) inside
+no-feed-in : (text : List ℕ) → NoCharPasses (λ d. eqb d lf) text → is_one_row text ≡ true
+no-feed-in text none = no-feed text (λ i inside. NoCharPasses-char lf text i none (omega arith) inside)
+
+-- neither is its first byte one, nor one of the rest
+no-feed-parts : (b : ℕ) (text : List ℕ) → is_one_row (b ∷ text) ≡ true → (eqb b lf ≡ false) × (is_one_row text ≡ true)
+no-feed-parts b text one = let both = and_parts (not (eqb b lf)) (is_one_row text) one in (not-true (eqb b lf) both.0, both.1)
 
 -- a row with more, and more after that
 with-more : (row : RowView) (a b : List ℕ) → row_with (row_with row a) b ≡ row_with row (a ++ b)
@@ -42,10 +40,10 @@ with-none : (row : RowView) → row_with row [] ≡ row
 with-none row = ap (λ text. record row { text = text }) (append-nil row.text)
 
 -- the row behind a piece, and behind a line feed
-pub behind-piece : (row : RowView) (piece : List ℕ) → HasNoFeed piece → row_behind row piece ≡ row_with row piece
+pub behind-piece : (row : RowView) (piece : List ℕ) → is_one_row piece ≡ true → row_behind row piece ≡ row_with row piece
 behind-piece row [] none = sym (with-none row)
 behind-piece row (b ∷ piece) none =
-    rw (first-other b piece none) (behind-piece (row_with row (b ∷ [])) piece (rest-none b piece none) ∙ with-more row (b ∷ []) piece)
+    let (other, rest) = no-feed-parts b piece none in rw other (behind-piece (row_with row (b ∷ [])) piece rest ∙ with-more row (b ∷ []) piece)
 
 pub behind-feed : (row : RowView) (front more : List ℕ) → row_behind row (front ++ (lf ∷ more)) ≡ row_behind next_row more
 behind-feed row [] more = refl
@@ -83,13 +81,13 @@ module _ (screen : PromptScreenView) (continuation line : List ℕ) where
       ap (λ (shown : RowView). (before_row screen continuation shown.is_first, shown.text)) last
 
 -- the rows of a piece, and of a piece before a line feed
-pub rows-piece : (piece : List ℕ) → HasNoFeed piece → rows_of_text piece ≡ piece ∷ []
+pub rows-piece : (piece : List ℕ) → is_one_row piece ≡ true → rows_of_text piece ≡ piece ∷ []
 rows-piece [] none = refl
-rows-piece (b ∷ piece) none = rw (first-other b piece none) (ap (before_rows b) (rows-piece piece (rest-none b piece none)))
+rows-piece (b ∷ piece) none = let (other, rest) = no-feed-parts b piece none in rw other (ap (before_rows b) (rows-piece piece rest))
 
-pub rows-feed : (piece more : List ℕ) → HasNoFeed piece → rows_of_text (piece ++ (lf ∷ more)) ≡ piece ∷ rows_of_text more
+pub rows-feed : (piece more : List ℕ) → is_one_row piece ≡ true → rows_of_text (piece ++ (lf ∷ more)) ≡ piece ∷ rows_of_text more
 rows-feed [] more none = refl
-rows-feed (b ∷ piece) more none = rw (first-other b piece none) (ap (before_rows b) (rows-feed piece more (rest-none b piece none)))
+rows-feed (b ∷ piece) more none = let (other, rest) = no-feed-parts b piece none in rw other (ap (before_rows b) (rows-feed piece more rest))
 
 -- there is a first row
 some-rows : (text : List ℕ) → (row : List ℕ) × (more : List (List ℕ)) × (rows_of_text text ≡ row ∷ more)
@@ -113,11 +111,11 @@ module _ (screen : PromptScreenView) (continuation : List ℕ) where
       by so false e = rw e (ap (λ text. x ∷ text) (so (row_with row (x ∷ []))))
 
   -- elements of a piece, and of a piece before a line feed
-  pub elements-piece : (set : Option CellAttributes) (row : RowView) (piece : List ℕ) → HasNoFeed piece
+  pub elements-piece : (set : Option CellAttributes) (row : RowView) (piece : List ℕ) → is_one_row piece ≡ true
       → elements_of_rows screen continuation set row (rows_of_text piece) ≡ Text piece ∷ []
   elements-piece set row piece none = ap (elements_of_rows screen continuation set row) (rows-piece piece none)
 
-  pub elements-feed : (set : Option CellAttributes) (row : RowView) (piece more : List ℕ) → HasNoFeed piece
+  pub elements-feed : (set : Option CellAttributes) (row : RowView) (piece more : List ℕ) → is_one_row piece ≡ true
       → elements_of_rows screen continuation set row (rows_of_text (piece ++ (lf ∷ more)))
       ≡ Text piece ∷ (break_elements screen continuation set (row_with row piece) ++ elements_of_rows screen continuation set next_row (rows_of_text more))
   elements-feed set row piece more none =
@@ -144,10 +142,10 @@ module _ (screen : PromptScreenView) (continuation : List ℕ) where
   one-before set row b first (next ∷ more) =
       ap (λ r. b ∷ (first ++ text_of_elements (break_elements screen continuation set r ++ elements_of_rows screen continuation set next_row (next ∷ more)))) (sym (with-more row (b ∷ []) first))
 
-  text-of-rows : (set : Option CellAttributes) (row : RowView) (text : List ℕ)
+  pub text_of_rows : (set : Option CellAttributes) (row : RowView) (text : List ℕ)
       → text_of_elements (elements_of_rows screen continuation set row (rows_of_text text)) ≡ spread_from screen continuation row text
-  text-of-rows set row [] = refl
-  text-of-rows set row (b ∷ text) = by (some-rows text) (λ r. text-of-rows set r text) (eqb b lf) refl
+  text_of_rows set row [] = refl
+  text_of_rows set row (b ∷ text) = by (some-rows text) (λ r. text_of_rows set r text) (eqb b lf) refl
     where
       by : (first : List ℕ) × (more : List (List ℕ)) × (rows_of_text text ≡ first ∷ more)
           → ((r : RowView) → text_of_elements (elements_of_rows screen continuation set r (rows_of_text text)) ≡ spread_from screen continuation r text)
@@ -161,30 +159,16 @@ module _ (screen : PromptScreenView) (continuation : List ℕ) where
           rw (e, it.2, one-before set row b it.0 it.1)
           (ap (λ rows. b ∷ text_of_elements (elements_of_rows screen continuation set (row_with row (b ∷ [])) rows)) (sym it.2) ∙ ap (λ text. b ∷ text) (so (row_with row (b ∷ []))))
 
-  -- the text of a piece in a row, and of a piece before a line feed
-  pub spread-piece : (row : RowView) (piece : List ℕ) → HasNoFeed piece → spread_from screen continuation row piece ≡ piece
-  spread-piece row piece none = sym (text-of-rows None row piece) ∙ ap text_of_elements (elements-piece None row piece none) ∙ append-nil piece
-
-  pub spread-feed : (row : RowView) (piece more : List ℕ) → HasNoFeed piece
-      → spread_from screen continuation row (piece ++ (lf ∷ more)) ≡ piece ++ (row_break screen continuation (row_with row piece) ++ spread_from screen continuation next_row more)
-  spread-feed row piece more none =
-      sym (text-of-rows None row (piece ++ (lf ∷ more))) ∙ ap text_of_elements (elements-feed None row piece more none)
-      ∙ ap (λ rest. piece ++ (row_break screen continuation (row_with row piece) ++ rest)) (text-of-rows None next_row more)
+  -- the text of a piece in a row
+  spread-piece : (row : RowView) (piece : List ℕ) → is_one_row piece ≡ true → spread_from screen continuation row piece ≡ piece
+  spread-piece row piece none = sym (text_of_rows None row piece) ∙ ap text_of_elements (elements-piece None row piece none) ∙ append-nil piece
 
   -- what the last piece shows
-  pub spread_last : (row : RowView) (rest : List ℕ) → NoCharPasses (λ d. eqb d lf) rest → spread_from screen continuation row rest ≡ rest
-  spread_last row rest none = spread-piece row rest (no-feed-in rest none)
-
   pub elements_last : (set : Option CellAttributes) (row : RowView) (rest : List ℕ) → NoCharPasses (λ d. eqb d lf) rest
       → elements_of_rows screen continuation set row (rows_of_text rest) ≡ Text rest ∷ []
   elements_last set row rest none = elements-piece set row rest (no-feed-in rest none)
 
   -- ---- one row
-
-  no-feed : (text : List ℕ) → is_one_row text ≡ true → HasNoFeed text
-  no-feed [] h i inside = absurd (omega (arith, inside))
-  no-feed (b ∷ text) h zero inside = λ there. true≢false (sym (and_parts (not (eqb b lf)) (is_one_row text) h).0 ∙ ap not (eq-eqb b lf there))
-  no-feed (b ∷ text) h (suc i) inside = no-feed text (and_parts (not (eqb b lf)) (is_one_row text) h).1 i (omega (arith, inside))
 
   one-row-elements : (set : Option CellAttributes) (row : RowView) (elements : List ElementView) → is_one_row (text_of_elements elements) ≡ true
       → elements_from screen continuation set row elements ≡ elements
@@ -193,7 +177,7 @@ module _ (screen : PromptScreenView) (continuation : List ℕ) where
   one-row-elements set row (AllAttributes attributes ∷ more) h = ap (λ (es : List ElementView). AllAttributes attributes ∷ es) (one-row-elements (Some attributes) row more h)
   one-row-elements set row (Text text ∷ more) h =
       let both = and_parts (is_one_row text) (is_one_row (text_of_elements more)) (sym (list_all-append (λ b. not (eqb b lf)) text (text_of_elements more)) ∙ h) in
-      ap (λ es. es ++ elements_from screen continuation set (row_behind row text) more) (elements-piece set row text (no-feed text both.0))
+      ap (λ es. es ++ elements_from screen continuation set (row_behind row text) more) (elements-piece set row text both.0)
       ∙ ap (λ (es : List ElementView). Text text ∷ es) (one-row-elements set (row_behind row text) more both.1)
 
   one-row-cut : (cut : Cut) → cut.cursor ≤ length cut.line → is_one_row cut.line ≡ true → spread_cut screen continuation (take cut.cursor cut.line) (drop cut.cursor cut.line) ≡ cut
@@ -202,8 +186,8 @@ module _ (screen : PromptScreenView) (continuation : List ℕ) where
       let back = drop cut.cursor cut.line in
       let whole = take-append-drop cut.cursor cut.line in
       let both = and_parts (is_one_row front) (is_one_row back) (sym (list_all-append (λ b. not (eqb b lf)) front back) ∙ ap is_one_row whole ∙ h) in
-      let first : spread_from screen continuation empty_first_row front ≡ front = spread-piece empty_first_row front (no-feed front both.0) in
-      let second : spread_from screen continuation (row_behind empty_first_row front) back ≡ back = spread-piece (row_behind empty_first_row front) back (no-feed back both.1) in
+      let first : spread_from screen continuation empty_first_row front ≡ front = spread-piece empty_first_row front both.0 in
+      let second : spread_from screen continuation (row_behind empty_first_row front) back ≡ back = spread-piece (row_behind empty_first_row front) back both.1 in
       let cursor : length front ≡ cut.cursor = length-take-le cut.cursor cut.line inside in
       rw (first, second, whole, cursor) refl
 
@@ -219,7 +203,7 @@ elements_are_spread screen continuation set row (AllAttributes attributes ∷ mo
 elements_are_spread screen continuation set row (Text text ∷ more) =
     rw (
       text-append screen continuation (elements_of_rows screen continuation set row (rows_of_text text)) (elements_from screen continuation set (row_behind row text) more),
-      text-of-rows screen continuation set row text,
+      text_of_rows screen continuation set row text,
       elements_are_spread screen continuation set (row_behind row text) more,
     ) (sym (spread-append screen continuation row text (text_of_elements more)))
 

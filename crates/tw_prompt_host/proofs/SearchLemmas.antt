@@ -1,4 +1,4 @@
--- The line before a search, and a search that is given up.
+-- A search that is given up.
 use Rattle.std.proofs.Common.{◌≡◌, ◌&&◌, not, Bool, true, false, refl, ap, Option, Some, None}
 use Rattle.tw_input.specs.EventView.{Key}
 use Rattle.tw_line.specs.Cut.{Cut}
@@ -9,10 +9,8 @@ use Rattle.tw_key_parts.specs.KeyRules.{KeyRules}
 use Rattle.tw_key_parts.specs.SearchWatch.{has_lines, searches_after}
 use Rattle.tw_prompt_host.specs.FailingSearch.{is_failing}
 use Rattle.tw_prompt_host.specs.Going.{comes_back_after, give_up_key, event_line}
-use Rattle.tw_prompt_host.specs.PromptLaws.{GivesLineBack, KeepsLineOfSearch}
-use Rattle.tw_prompt_host.specs.PromptRules.{Prompted, prompt_rules, said}
+use Rattle.tw_prompt_host.specs.PromptRules.{GivesLineBack, Prompted, prompt_rules, said, is_accepting}
 use Rattle.tw_prompt_host.specs.Rows.{are_shown}
-use Rattle.tw_prompt_host.specs.Validation.{is_accepting}
 
 -- an action that does not accept the line is not replaced
 pub said_all : (kept opens : Bool) (a action : Option ActionView) → is_accepting a ≡ false → said (kept && is_accepting a) opens action ≡ action
@@ -22,12 +20,6 @@ said_all false opens a action e = refl
 module _ {V S K : Type 0} (keys : KeyRules S K) (rules : HostRules V) where
   abbrev Host : HostRules (Prompted V S)
   Host = prompt_rules keys rules
-
-  pub keeps_line_of_search : KeepsLineOfSearch keys rules
-  keeps_line_of_search = record {
-    begun = λ v event cut still searches. rw (searches, still) refl;
-    kept = λ v event cut searching searches. rw (searches, searching) refl;
-  }
 
   -- a search that is given up is left, and its line comes back
   gave : (v : Prompted V S) (cut : Cut) → v.going.searching ≡ true → (rules.resolve v.host (Key give_up_key) (event_line v.going cut)).action ≡ None

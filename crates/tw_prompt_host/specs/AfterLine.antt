@@ -9,8 +9,7 @@ use Rattle.tw_surface.specs.Width.{cluster_width}
 use Rattle.tw_surface.specs.declared.cell.CellAttributes.{CellAttributes}
 use Rattle.tw_line.specs.Cut.{at_end}
 use Rattle.tw_host.specs.ElementView.{ElementView}
-use Rattle.tw_hosts.specs.Settling.{line_start, settled_column}
-use Rattle.tw_hosts.specs.SettledRules.{PromptScreenView}
+use Rattle.tw_hosts.specs.Settling.{line_start, settled_column, PromptScreenView}
 use Rattle.tw_hosts.specs.Tokens.{styled_text}
 use Rattle.tw_prompt_host.specs.Rows.{last_shown}
 

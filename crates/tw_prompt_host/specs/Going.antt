@@ -10,43 +10,21 @@ use Rattle.tw_host.specs.KeyTable.{key_press, letter}
 use Rattle.tw_key_parts.specs.Keys.{is_key}
 use Rattle.tw_key_parts.specs.Ring.{is_same_cut}
 use Rattle.tw_key_parts.specs.SearchWatch.{searches_after}
-use Rattle.tw_prompt_host.specs.MenuState.{MenuView, Closed, menu_after}
-use Rattle.tw_prompt_host.specs.MenuView.{menu_view}
+use Rattle.tw_prompt_host.specs.Menu.{menu_after}
 use Rattle.tw_prompt_host.specs.declared.going.Going.{Going}
+use Rattle.tw_prompt_host.specs.declared.menu.Menu.{Menu}
+use Rattle.tw_prompt_host.specs.declared.menu.Menu.TheVariants.{Closed}
 
 -- gives a search up
 abbrev pub give_up_key : KeyEvent
 give_up_key = key_press ctrl (letter (codes "G"))
 
--- whether the editor searches, whether the search fails, the line before it, a line that comes back with the next
--- event, whether the line was kept from being accepted, whether it is over, and the menu
-pub record GoingView : Type 0 where
-  pub searching : Bool
-  pub fails : Bool
-  pub before_search : Option Cut
-  pub comes_back : Option Cut
-  pub kept : Bool
-  pub over : Bool
-  pub menu : MenuView
-
--- the view of it
-abbrev pub going_view : Going → GoingView
-going_view going = record {
-  searching = going.searching;
-  fails = going.fails;
-  before_search = going.before_search;
-  comes_back = going.comes_back;
-  kept = going.kept;
-  over = going.over;
-  menu = menu_view going.menu;
-}
-
 -- before a line
-abbrev pub going_at_rest : GoingView
+abbrev pub going_at_rest : Going
 going_at_rest = record { searching = false; fails = false; before_search = None; comes_back = None; kept = false; over = false; menu = Closed }
 
 -- the line at an event: the one that comes back, or else the editor's
-abbrev pub event_line : GoingView → Cut → Cut
+abbrev pub event_line : Going → Cut → Cut
 event_line going cut = unwrap_or going.comes_back cut
 
 -- the line before a search, by whether the editor searched before an event and does after it
@@ -69,11 +47,11 @@ pub record Came : Type 0 where
   pub action : Option ActionView
   pub back : Bool
   pub fails : Bool
-  pub turn : Option MenuView
+  pub turn : Option Menu
 
 -- all of it after an event, in a history that has lines or none: an action that was kept back keeps the line, and
 -- another one ends that
-abbrev pub going_after : Bool → Came → GoingView → GoingView
+abbrev pub going_after : Bool → Came → Going → Going
 going_after lines came going =
     let searches = searches_after lines came.action going.searching in
     record {

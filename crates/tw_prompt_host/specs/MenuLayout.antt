@@ -4,11 +4,18 @@ use Rattle.std.specs.Fmt.{decimal}
 use Rattle.std.specs.List.{fold}
 use Rattle.tw_surface.specs.Defaults.{default_attributes}
 use Rattle.tw_surface.specs.Width.{column_width}
+use Rattle.tw_line.specs.Cut.{Cut}
 use Rattle.tw_input.specs.EventView.{EventView, Key, Resized, Paste, Wake}
 use Rattle.tw_host.specs.CandidateView.{CandidateView}
 use Rattle.tw_host.specs.ElementView.{ElementView, Text}
 use Rattle.tw_hosts.specs.Tokens.{styled_text}
 use Rattle.tw_prompt_host.specs.declared.layout.MenuStyle.{MenuStyle}
+
+-- the candidates of a completion, which of them stands in the line, and the line before it
+pub record Shown : Type 0 where
+  pub candidates : List CandidateView
+  pub chosen : ℕ
+  pub line : Cut
 
 -- the chosen one stands in reverse
 abbrev pub reverse_style : ℕ → ℕ → MenuStyle

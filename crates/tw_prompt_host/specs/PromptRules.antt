@@ -1,35 +1,46 @@
 -- A prompt: a host with a history, completers, keys, hints, a validator, a menu and a screen.
-use Rattle.std.specs.Prelude.{ℕ, ◌==◌, ◌&&◌, ◌||◌, Bool, true, false, not, List, [], ◌++◌, codes, length, Option, Some, None, option_map, unwrap_or, if◌then◌else◌}
+use Rattle.std.specs.Prelude.{ℕ, ◌==◌, ◌&&◌, ◌||◌, Bool, true, false, not, List, [], ◌++◌, codes, length, Option, Some, None, option_map, unwrap_or, if◌then◌else◌, ◌≡◌}
 use Rattle.std.specs.Option.{is_none}
 use Rattle.tw_surface.specs.Characters.{lf}
 use Rattle.tw_surface.specs.Defaults.{default_attributes}
-use Rattle.tw_input.specs.EventView.{EventView}
+use Rattle.tw_input.specs.EventView.{EventView, Key}
 use Rattle.tw_line.specs.Cut.{Cut}
 use Rattle.tw_line.specs.declared.movements.Movement.TheVariants as movement
-use Rattle.tw_host.specs.ActionView.{ActionView, Complete, InsertChar, InsertText, Move, NoAction}
+use Rattle.tw_host.specs.ActionView.{ActionView, Complete, InsertChar, InsertText, Move, NoAction, AcceptLine}
 use Rattle.tw_host.specs.CandidateView.{CandidateView}
 use Rattle.tw_host.specs.ElementView.{ElementView}
-use Rattle.tw_host.specs.HostRules.{HostRules, Resolution, or_default}
+use Rattle.tw_host.specs.HostRules.{HostRules, Resolution, or_default, plain_text}
 use Rattle.tw_host.specs.KeyTable.{action_of}
-use Rattle.tw_hosts.specs.SettledRules.{PromptScreenView, screen_after}
-use Rattle.tw_completion_parts.specs.Completers.{ContextCompleterView, context_candidates}
-use Rattle.tw_completion_parts.specs.FileNames.{ListingView}
+use Rattle.tw_hosts.specs.Settling.{PromptScreenView, screen_after}
+use Rattle.tw_completion_parts.specs.Completers.{context_candidates}
+use Rattle.tw_completion_parts.specs.declared.completers.ContextCompleter.{ContextCompleter}
+use Rattle.tw_completion_parts.specs.declared.file_names.Listing.{Listing}
 use Rattle.tw_completion_parts.specs.SharedCandidate.{beginning_first}
 use Rattle.tw_key_parts.specs.Keys.{is_key}
 use Rattle.tw_key_parts.specs.KeyRules.{Edited, KeyRules, step_of}
-use Rattle.tw_key_parts.specs.SearchWatch.{has_lines}
-use Rattle.tw_prompt_host.specs.Going.{Came, GoingView, give_up_key, going_after, event_line}
+use Rattle.tw_key_parts.specs.SearchWatch.{has_lines, searches_after}
+use Rattle.tw_prompt_host.specs.Going.{Came, give_up_key, going_after, event_line}
 use Rattle.tw_prompt_host.specs.Hint.{are_on, hint_if_under, hint_of, hint_taken_by, shown_under}
 use Rattle.tw_prompt_host.specs.AfterLine.{after_line_on}
 use Rattle.tw_prompt_host.specs.FailingSearch.{fails_after, is_failing}
 use Rattle.tw_prompt_host.specs.MenuLayout.{style_after}
-use Rattle.tw_prompt_host.specs.MenuState.{MenuView, menu_begun, turned}
-use Rattle.tw_prompt_host.specs.MenuView.{asks, is_menu_open, offered, page_or, turn_line, turn_unless}
+use Rattle.tw_prompt_host.specs.Menu.{asks, is_menu_open, menu_begun, offered, page_or, turn_line, turn_unless, turned}
 use Rattle.tw_prompt_host.specs.Rows.{are_shown, highlight_on}
-use Rattle.tw_prompt_host.specs.Validation.{is_accepting, shown_lack}
+use Rattle.tw_prompt_host.specs.declared.going.Going.{Going}
 use Rattle.tw_prompt_host.specs.declared.hint.Hints.{Hints}
 use Rattle.tw_prompt_host.specs.declared.hint.Hints.TheVariants.{After}
 use Rattle.tw_prompt_host.specs.declared.layout.MenuStyle.{MenuStyle}
+use Rattle.tw_prompt_host.specs.declared.menu.Menu.{Menu}
+
+-- the action accepts the line
+abbrev pub is_accepting : Option ActionView → Bool
+is_accepting (Some AcceptLine) = true
+is_accepting _ = false
+
+-- what is shown under a line: what it lacks, where it was kept and lacks something, and else the other host's
+abbrev pub shown_lack : Bool → Option (List ℕ) → List ElementView → List ElementView
+shown_lack true (Some text) elements = plain_text text
+shown_lack _ _ elements = elements
 
 -- what the application's host holds, the lines of the history and those of them that are lent, the completers with
 -- listings of directories, what the keys hold, how hints are shown, whether a search that fails is not accepted, what
@@ -39,8 +50,8 @@ pub record Prompted (V S : Type 0) : Type 0 where
   pub host : V
   pub lines : List (List ℕ)
   pub lent : List (List ℕ)
-  pub completers : List ContextCompleterView
-  pub listings : List ListingView
+  pub completers : List ContextCompleter
+  pub listings : List Listing
   pub keys : S
   pub hints : Hints
   pub stops_failing_searches : Bool
@@ -48,7 +59,7 @@ pub record Prompted (V S : Type 0) : Type 0 where
   pub style : MenuStyle
   pub screen : PromptScreenView
   pub rows : Option (List ℕ)
-  pub going : GoingView
+  pub going : Going
 
 -- what is answered to an event: the line, an action if there is one, and what a part keeps of it if it was its edit
 pub record Answer (K : Type 0) : Type 0 where
@@ -109,12 +120,12 @@ module _ {V S K : Type 0} (keys : KeyRules S K) (rules : HostRules V) where
   found v cut = beginning_first (unwrap_or (context_candidates v.completers v.listings cut) (rules.candidates v.host cut))
 
   -- the menu with which an action begins a completion, of the candidates
-  abbrev pub begun_at : Prompted V S → Option ActionView → Cut → Option MenuView
+  abbrev pub begun_at : Prompted V S → Option ActionView → Cut → Option Menu
   begun_at v action cut =
       option_map (λ candidates. menu_begun candidates cut) (if asks v.going.searching v.going.menu action then Some (found v cut) else None)
 
   -- where an event turns the menu
-  abbrev pub turn_at : Prompted V S → EventView → Cut → Option MenuView
+  abbrev pub turn_at : Prompted V S → EventView → Cut → Option Menu
   turn_at v event cut = turned (begun_at v (action_of event) cut) event (action_of event) v.going.menu
 
   -- the edit that an event has without the menu: a search is left, a hint is taken, or that of the parts
@@ -139,7 +150,7 @@ module _ {V S K : Type 0} (keys : KeyRules S K) (rules : HostRules V) where
 
   -- an answer is done, or held back, and all follow what came of the event in the end; `fails` is whether a search would
   -- fail by the key table, and then or where accepting is held back the prompt says that it fails
-  abbrev pub judged : Prompted V S → EventView → Cut → V → Answer K → Option MenuView → Bool → Bool → Resolution (Prompted V S)
+  abbrev pub judged : Prompted V S → EventView → Cut → V → Answer K → Option Menu → Bool → Bool → Resolution (Prompted V S)
   judged v event cut value answer turn back fails =
       let action = said back (opens_row v) answer.action in
       let done = or_default action event in
@@ -163,7 +174,7 @@ module _ {V S K : Type 0} (keys : KeyRules S K) (rules : HostRules V) where
       let own = rules.resolve v.host event cut in answered own.action (completing (edit_at v event cut) (turn_line (turn_at v event cut))) own.cut
 
   -- where the event turns the menu, if nothing else is answered
-  abbrev pub turn_taken_at : Prompted V S → EventView → Cut → Option MenuView
+  abbrev pub turn_taken_at : Prompted V S → EventView → Cut → Option Menu
   turn_taken_at v event cut = turn_unless (rules.resolve v.host event cut).action (edit_at v event cut) (turn_at v event cut)
 
   -- an event at a line; an answer is held back that would accept a line that is kept
@@ -183,3 +194,32 @@ module _ {V S K : Type 0} (keys : KeyRules S K) (rules : HostRules V) where
     candidates = λ v cut. offered v.going.menu (found v cut);
     resolve = λ v event cut. resolved_at v event (event_line v.going cut);
   }
+
+-- ---- what follows at each event
+
+module _ {V : Type 0} (rules : HostRules V) (watch : V → Bool) where
+  -- a host's value has a watch: at each event it follows the action that comes of it
+  abbrev pub IsWatch : Type 0
+  IsWatch = (v : V) (event : EventView) (cut : Cut) → let r = rules.resolve v event cut in
+      watch r.value ≡ searches_after (has_lines (rules.lines r.value)) (or_default r.action event) (watch v)
+
+module _ {V S K : Type 0} (keys : KeyRules S K) (rules : HostRules V) where
+  -- a prompt of any parts over any host has one
+  abbrev pub PromptHasWatch : Type 0
+  PromptHasWatch = IsWatch (prompt_rules keys rules) (λ v. v.going.searching)
+
+  -- a line before a search is kept while the editor searches
+  pub record KeepsLineOfSearch : Type 0 where
+    pub begun : (v : Prompted V S) (event : EventView) (cut : Cut) → let after = (prompt_rules keys rules).resolve v event cut in
+        v.going.searching ≡ false → after.value.going.searching ≡ true → after.value.going.before_search ≡ Some (event_line v.going cut)
+    pub kept : (v : Prompted V S) (event : EventView) (cut : Cut) → let after = (prompt_rules keys rules).resolve v event cut in
+        v.going.searching ≡ true → after.value.going.searching ≡ true → after.value.going.before_search ≡ v.going.before_search
+
+  -- the key that gives a search up leaves it, unless the application's host has another action, and the line before it
+  -- stands at the next event
+  pub record GivesLineBack : Type 0 where
+    pub left : (v : Prompted V S) (cut : Cut) → v.going.searching ≡ true → (rules.resolve v.host (Key give_up_key) (event_line v.going cut)).action ≡ None
+        → let after = (prompt_rules keys rules).resolve v (Key give_up_key) cut in
+        (after.action ≡ Some (Move movement.None)) × (after.value.going.comes_back ≡ v.going.before_search)
+    pub stands : (v : Prompted V S) (event : EventView) (line cut : Cut) → v.going.comes_back ≡ Some line
+        → (prompt_rules keys rules).resolve v event cut ≡ resolved_at keys rules v event line

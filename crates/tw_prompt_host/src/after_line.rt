@@ -3,7 +3,7 @@
 ghost use Rattle.std.specs.Prelude.{◌≡◌, IfOk, map, string_bytes, true};
 ghost use Rattle.unicode_segmentation.specs.Grapheme.{graphemes};
 ghost use Rattle.tw_host.specs.ElementView.{element_view};
-ghost use Rattle.tw_hosts.specs.SettledRules.{screen_view};
+ghost use Rattle.tw_hosts.specs.Settling.{screen_view};
 ghost use Rattle.tw_prompt_host.specs.AfterLine.{after_line_on, shortened_to, fitting_clusters, has_control, prompt_column, room_after};
 ghost use Rattle.tw_prompt_host.specs.Rows.{rows_view};
 
@@ -24,7 +24,7 @@ fn has_control(text: &str) -> bool
 }
 
 /// Returns the columns of the last row of a prompt, or `None` if they are not known.
-#[tactic(auto, using(crate::proofs::AfterLineLemmas::ends_at))]
+#[tactic(auto, using(tw_hosts::proofs::SettlingLemmas::end_reached))]
 fn prompt_column(cols: usize, prompt: &str) -> Option<usize>
     ensures { result ≡ prompt_column cols prompt.now }
 {

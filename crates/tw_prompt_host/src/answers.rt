@@ -6,9 +6,8 @@ ghost use Rattle.tw_host.specs.HostRules.{or_default};
 ghost use Rattle.tw_host.specs.KeyTable.{action_of};
 ghost use Rattle.tw_input.specs.EventView.{event_view};
 ghost use Rattle.tw_key_parts.specs.EditView.{edit_view, lent_action};
-ghost use Rattle.tw_prompt_host.specs.MenuView.{menu_view, turn_unless, turn_view};
-ghost use Rattle.tw_prompt_host.specs.PromptRules.{answered, completing, said};
-ghost use Rattle.tw_prompt_host.specs.Validation.{is_accepting};
+ghost use Rattle.tw_prompt_host.specs.Menu.{turn_unless, turn_view};
+ghost use Rattle.tw_prompt_host.specs.PromptRules.{answered, completing, said, is_accepting};
 
 use crate::menu::{Menu, Turn};
 use tw_host::Action;
@@ -32,7 +31,7 @@ pub fn answered<K: KeyPart>(
           action = option_map action_view result.0;
           kept = option_map K.kept result.1;
         } ≡ answered (option_map action_view own) (completing edited completed) editor.old }
-    ensures turn { let view = turn_view (menu_view _menu.now) in
+    ensures turn { let view = turn_view _menu.now in
         let edited = option_map (edit_view (option_map K.kept)) edit in
         option_map view result.2
         ≡ turn_unless (option_map action_view own) edited (option_map view turn) }

@@ -5,8 +5,8 @@ ghost use Rattle.tw_input.specs.EventView.{event_view};
 ghost use Rattle.tw_key_parts.specs.EditView.{lent_action};
 ghost use Rattle.tw_key_parts.specs.Keys.{is_key};
 ghost use Rattle.tw_key_parts.specs.SearchWatch.{searches_after};
-ghost use Rattle.tw_prompt_host.specs.Going.{going_at_rest, before_search_after, comes_back_after, give_up_key, going_after, going_view};
-ghost use Rattle.tw_prompt_host.specs.MenuView.{menu_view, turn_view};
+ghost use Rattle.tw_prompt_host.specs.Going.{going_at_rest, before_search_after, comes_back_after, give_up_key, going_after};
+ghost use Rattle.tw_prompt_host.specs.Menu.{turn_view};
 
 use crate::menu::{Menu, Turn};
 use tw_host::Action;
@@ -49,7 +49,7 @@ pub fn gives_up(event: &InputEvent) -> bool
 impl Going {
     /// Creates the state before a line.
     pub fn new() -> Self
-        ensures { going_view result ≡ going_at_rest }
+        ensures { result ≡ going_at_rest }
     {
         Going {
             searching: false,
@@ -64,11 +64,11 @@ impl Going {
 
     /// Follows a search, which goes on after an event or not.
     fn follow_search(&mut self, event: &InputEvent, searches: bool, line: LineEditBuffer)
-        ensures { let old = going_view self.old in going_view self.new ≡ record old {
+        ensures { self.new ≡ record self.old {
           searching = searches;
-          before_search = before_search_after old.searching searches line old.before_search;
+          before_search = before_search_after self.old.searching searches line self.old.before_search;
           comes_back = comes_back_after (is_key give_up_key (event_view event.now)) searches
-              old.before_search;
+              self.old.before_search;
         } }
     {
         let before = self.before_search.take();
@@ -98,15 +98,15 @@ impl Going {
         fails: bool,
         turn: Option<Turn>,
     )
-        ensures { going_view self.new ≡ going_after lines (record {
+        ensures { self.new ≡ going_after lines (record {
           event = event_view event.now;
           before = before;
           after = after.now;
           action = lent_action action.entry;
           back = back;
           fails = fails;
-          turn = option_map (turn_view (menu_view self.old.menu)) turn;
-        }) (going_view self.old) }
+          turn = option_map (turn_view self.old.menu) turn;
+        }) self.old }
     {
         self.menu.follow(turn, &before, after, action);
         self.kept = back || (self.kept && action.is_none());

@@ -41,16 +41,14 @@ fn continuation_of<'line>(text: &str, line: &'line str) -> Option<&'line str>
 }
 
 /// Returns the rest of the newest longer line that begins with a text, or `None` for the empty text.
-#[tactic(auto, using(crate::proofs::HintLemmas::is_newest, crate::proofs::HintLemmas::is_none))]
+#[tactic(auto, using(tw_key_parts::proofs::UndoLemmas::greatest_steps))]
 pub fn history_hint<'a, L: LentLines>(lines: &'a L, text: &str) -> Option<&'a str>
     ensures { option_map (λ rest. rest.now) result ≡ hint_of (L.lines lines.now) text.now }
 {
     if text.is_empty() {
         return None;
     }
-    let mut at = lines.line_count();
-    while at > 0 {
-        at -= 1;
+    for at in (0..lines.line_count()).rev() {
         if let Some(rest) = continuation_of(text, lines.line(at)) {
             return Some(rest);
         }

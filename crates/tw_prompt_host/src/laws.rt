@@ -1,10 +1,10 @@
 //! What follows from the definitions.
 
 ghost use Rattle.tw_host.specs.Faithful.{IsFaithful};
-ghost use Rattle.tw_prompt_host.specs.NestingLaws.{BracketedIsWhole, JoinedIsWhole, PlainIsWhole, QuotedIsWhole};
+ghost use Rattle.tw_prompt_host.specs.Nesting.{BracketedIsWhole, JoinedIsWhole, PlainIsWhole, QuotedIsWhole};
 ghost use Rattle.tw_prompt_host.specs.Prepared.{prepared_rules};
-ghost use Rattle.tw_prompt_host.specs.PromptLaws.{GivesLineBack, KeepsLineOfSearch, PromptHasWatch};
-ghost use Rattle.tw_prompt_host.specs.RowLaws.{ElementsAreSpread, OneRowIsSettled, PrintableCutIsShown, PrintableIsShown, PrintableIsSpread};
+ghost use Rattle.tw_prompt_host.specs.PromptRules.{GivesLineBack, KeepsLineOfSearch, PromptHasWatch};
+ghost use Rattle.tw_prompt_host.specs.Rows.{ElementsAreSpread, OneRowIsSettled, PrintableCutIsShown, PrintableIsShown, PrintableIsSpread};
 
 use tw_host::LineEditorHost;
 use tw_key_parts::KeyPart;
@@ -17,7 +17,7 @@ pub fn watch<H: LineEditorHost, K: KeyPart>()
 
 /// The line before a search is kept while the editor searches. At the key that gives the search up it is left, and that
 /// line stands at the next event.
-#[tactic(auto, using(crate::proofs::SearchLemmas::keeps_line_of_search, crate::proofs::SearchLemmas::gives_line_back))]
+#[tactic(auto, using(crate::proofs::SearchLemmas::gives_line_back))]
 pub fn given_up<H: LineEditorHost, K: KeyPart>()
     ensures kept { KeepsLineOfSearch K.keys H.rules }
     ensures back { GivesLineBack K.keys H.rules }

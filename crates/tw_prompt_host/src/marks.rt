@@ -1,7 +1,7 @@
 //! The marks of a language.
 
 ghost use Rattle.std.specs.Prelude.{◌≡◌, IfOk};
-ghost use Rattle.tw_prompt_host.specs.Marks.{closes, common_pairs, is_closing, is_letter_or_space, mark_no_letter, opened_pair};
+ghost use Rattle.tw_prompt_host.specs.Nesting.{closes, common_pairs, is_closing, is_letter_or_space, mark_no_letter, opened_pair};
 
 use std::alloc::{AllocError, Global};
 

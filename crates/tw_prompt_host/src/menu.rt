@@ -5,8 +5,7 @@ ghost use Rattle.tw_host.specs.CandidateView.{candidate_view};
 ghost use Rattle.tw_input.specs.EventView.{event_view};
 ghost use Rattle.tw_key_parts.specs.EditView.{lent_action};
 ghost use Rattle.tw_key_parts.specs.Ring.{is_same_cut};
-ghost use Rattle.tw_prompt_host.specs.MenuView.{chosen_of, is_menu_open, menu_view, turn_line, turn_view};
-ghost use Rattle.tw_prompt_host.specs.MenuState.{menu_after, menu_begun, menu_stepped, stepped, turned};
+ghost use Rattle.tw_prompt_host.specs.Menu.{chosen_of, is_menu_open, menu_after, menu_begun, stepped, turn_line, turn_view, turned};
 
 use std::alloc::{AllocError, Global};
 use std::marker::Model;
@@ -21,6 +20,19 @@ const BACK: KeyEvent = KeyEvent {
     modifiers: Modifiers::SHIFT,
 };
 
+/// The candidates of a completion that is over.
+#[derive(Debug, Drop)]
+pub struct FewCandidates(pub Vec<CompletionCandidate>);
+
+impl Model for FewCandidates {
+    ghost use Rattle.std.specs.Prelude.{List, map};
+    ghost use Rattle.tw_host.specs.CandidateView.{CandidateView, candidate_view};
+
+    ghost Value = { List CandidateView };
+
+    ghost view = { λ few. map candidate_view few.0.items };
+}
+
 /// The candidates of a completion, one of which is in the line.
 #[derive(Debug, Drop)]
 pub struct OpenMenu {
@@ -33,7 +45,7 @@ pub struct OpenMenu {
 impl Model for OpenMenu {
     ghost use Rattle.std.specs.Prelude.{◌<◌, map, length};
     ghost use Rattle.tw_host.specs.CandidateView.{candidate_view};
-    ghost use Rattle.tw_prompt_host.specs.MenuState.{Shown};
+    ghost use Rattle.tw_prompt_host.specs.MenuLayout.{Shown};
 
     ghost Value = { Shown };
 
@@ -44,7 +56,7 @@ impl Model for OpenMenu {
 
 impl OpenMenu {
     /// Returns a copy of the chosen candidate, by itself.
-    #[tactic(auto, using(crate::proofs::MenuLemmas::part_seen))]
+    #[tactic(auto, using(crate::proofs::LayoutLemmas::part_seen))]
     pub fn chosen_one(&self, alloc: Global) -> Result<Vec<CompletionCandidate>, AllocError>
         ensures { IfOk result (λ copies. map candidate_view copies.items ≡ chosen_of self.now) }
     {
@@ -74,7 +86,7 @@ pub enum Menu {
     /// A completion whose candidates are not known.
     Unseen,
     /// A completion with these candidates, fewer than two, that is over.
-    Few(Vec<CompletionCandidate>),
+    Few(FewCandidates),
     /// A completion with two candidates or more.
     Open(OpenMenu),
 }
@@ -82,10 +94,11 @@ pub enum Menu {
 /// Where an event leads a menu.
 #[derive(Debug, Drop)]
 pub enum Turn {
-    /// Chooses the next candidate of an open menu.
-    Next,
-    /// Goes back to the candidate before.
-    Back,
+    /// Chooses the next candidate of an open menu, or goes back to the one before.
+    Step {
+        /// True if it goes back.
+        back: bool,
+    },
     /// Begins a completion.
     Begins(Menu),
 }
@@ -93,14 +106,14 @@ pub enum Turn {
 impl Menu {
     /// Returns true if it is open.
     pub fn is_open(&self) -> bool
-        ensures { result ≡ is_menu_open (menu_view self.now) }
+        ensures { result ≡ is_menu_open self.now }
     {
         matches!(self, Menu::Open(_))
     }
 
     /// Returns the menu at the beginning of a completion of a line.
     pub fn begun(candidates: Vec<CompletionCandidate>, line: LineEditBuffer) -> Self
-        ensures { menu_view result ≡ menu_begun (map candidate_view candidates.items) line }
+        ensures { result ≡ menu_begun (map candidate_view candidates.items) line }
     {
         if candidates.len() > 1 {
             Menu::Open(OpenMenu {
@@ -109,7 +122,7 @@ impl Menu {
                 line,
             })
         } else {
-            Menu::Few(candidates)
+            Menu::Few(FewCandidates(candidates))
         }
     }
 
@@ -120,20 +133,15 @@ impl Menu {
         action: Option<&Action>,
         begun: Option<Menu>,
     ) -> Option<Turn>
-        ensures { option_map (turn_view (menu_view self.now)) result
-            ≡ turned (option_map menu_view begun) (event_view event.now)
-            (lent_action action.entry) (menu_view self.now) }
+        ensures { option_map (turn_view self.now) result
+            ≡ turned begun (event_view event.now) (lent_action action.entry) self.now }
     {
         if !self.is_open() {
             return begun.map(|menu| Turn::Begins(menu));
         }
-        if is_key(BACK, event) {
-            return Some(Turn::Back);
-        }
-        match action {
-            Some(Action::Complete) => Some(Turn::Next),
-            _ => None,
-        }
+        let back = is_key(BACK, event);
+        let steps = back || matches!(action, Some(Action::Complete));
+        steps.then_some(Turn::Step { back })
     }
 
     /// Returns a copy of the line on which the editor completes when the menu turns.
@@ -143,21 +151,12 @@ impl Menu {
         turn: Option<&Turn>,
     ) -> Result<Option<LineEditBuffer>, AllocError>
         ensures { IfOk result (λ line. line
-            ≡ turn_line (option_map (λ turn. turn_view (menu_view self.now) turn.now) turn.entry)) }
+            ≡ turn_line (option_map (λ turn. turn_view self.now turn.now) turn.entry)) }
     {
         match (turn, self) {
-            (Some(Turn::Next | Turn::Back), Menu::Open(menu))
+            (Some(Turn::Step { .. }), Menu::Open(menu))
             | (Some(Turn::Begins(Menu::Open(menu))), _) => { Ok(Some(menu.line.try_clone(alloc)?)) }
             _ => Ok(None),
-        }
-    }
-
-    /// Chooses the next candidate of an open menu, or goes back to the one before.
-    fn step(&mut self, back: bool)
-        ensures { menu_view self.new ≡ menu_stepped back (menu_view self.old) }
-    {
-        if let Menu::Open(menu) = self {
-            menu.step(back);
         }
     }
 
@@ -169,14 +168,15 @@ impl Menu {
         after: &LineEditBuffer,
         action: Option<&Action>,
     )
-        ensures { menu_view self.new
-            ≡ unwrap_or (option_map (turn_view (menu_view self.old)) turn)
-            (menu_after (is_same_cut before.now after.now) (lent_action action.entry)
-            (menu_view self.old)) }
+        ensures { self.new ≡ unwrap_or (option_map (turn_view self.old) turn)
+            (menu_after (is_same_cut before.now after.now) (lent_action action.entry) self.old) }
     {
         match (turn, action) {
-            (Some(Turn::Next), _) => self.step(false),
-            (Some(Turn::Back), _) => self.step(true),
+            (Some(Turn::Step { back }), _) => {
+                if let Menu::Open(menu) = self {
+                    menu.step(back);
+                }
+            }
             (Some(Turn::Begins(menu)), _) => *self = menu,
             (None, Some(Action::Complete)) => *self = Menu::Unseen,
             (None, Some(Action::NoAction | Action::Repaint) | None) => {

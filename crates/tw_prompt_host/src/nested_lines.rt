@@ -1,7 +1,7 @@
 //! Lines whose brackets and quotations are whole.
 
 ghost use Rattle.tw_prompt_host.specs.Nesting.{nesting_of};
-ghost use Rattle.tw_prompt_host.specs.NestedLines.{lack_of};
+ghost use Rattle.tw_prompt_host.specs.Nesting.{lack_of};
 
 use crate::marks::MarkPair;
 use crate::nesting::{Nesting, nesting_in};

@@ -1,8 +1,7 @@
 //! The marks that a text leaves open.
 
-ghost use Rattle.std.specs.Prelude.{◌≡◌, ◌<◌, IfOk};
-ghost use Rattle.tw_prompt_host.specs.Marks.{mark_no_letter};
-ghost use Rattle.tw_prompt_host.specs.Nesting.{after_character, closed_mark, nesting_of, nesting_view, opens_behind, where_right};
+ghost use Rattle.std.specs.Prelude.{◌≡◌, IfOk, reverse};
+ghost use Rattle.tw_prompt_host.specs.Nesting.{after_character, closed_mark, mark_no_letter, nesting_of, nesting_view, opens_behind, where_right};
 
 use crate::marks::{
     MarkKind, MarkPair, OpenMark, is_closing, is_letter_or_space, mark_no_letter, opened_pair,
@@ -21,7 +20,7 @@ pub enum Nesting {
 
 /// Takes in a character outside of quotations that does not close the innermost open mark. Returns false if it is
 /// wrong. `letters` is true if no letter is a mark.
-#[tactic(auto, using(crate::proofs::NestingLemmas::letter_behind))]
+#[tactic(auto, using(crate::proofs::NestingLemmas::letter_behind, crate::proofs::NestingLemmas::newest_first))]
 fn take_opening(
     pairs: &[MarkPair],
     letters: bool,
@@ -30,8 +29,8 @@ fn take_opening(
     c: char,
 ) -> Result<bool, AllocError>
     requires { letters ≡ mark_no_letter pairs.now }
-    ensures { IfOk result (λ right. opens_behind pairs.now opens.old.items at c
-        ≡ where_right right opens.new.items) }
+    ensures { IfOk result (λ right. opens_behind pairs.now (reverse opens.old.items) at c
+        ≡ where_right right (reverse opens.new.items) at c) }
 {
     if letters && is_letter_or_space(c) {
         return Ok(true);
@@ -46,6 +45,7 @@ fn take_opening(
 }
 
 /// Takes in one more character. Returns false if it is wrong.
+#[tactic(auto, using(crate::proofs::NestingLemmas::newest_first, crate::proofs::NestingLemmas::last_is, crate::proofs::NestingLemmas::none_is))]
 fn take_in(
     pairs: &[MarkPair],
     letters: bool,
@@ -54,8 +54,8 @@ fn take_in(
     c: char,
 ) -> Result<bool, AllocError>
     requires { letters ≡ mark_no_letter pairs.now }
-    ensures { IfOk result (λ right. after_character pairs.now opens.old.items at c
-        ≡ where_right right opens.new.items) }
+    ensures { IfOk result (λ right. after_character pairs.now (reverse opens.old.items) at c
+        ≡ where_right right (reverse opens.new.items) at c) }
 {
     let Some(last) = opens.last().copied() else {
         return take_opening(pairs, letters, opens, at, c);

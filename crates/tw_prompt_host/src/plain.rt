@@ -1,8 +1,8 @@
 //! The prompt to begin with.
 
 ghost use Rattle.std.specs.Prelude.{◌≡◌, [], true, None, IfOk};
-ghost use Rattle.tw_hosts.specs.SettledRules.{screen_view};
-ghost use Rattle.tw_prompt_host.specs.Going.{going_at_rest, going_view};
+ghost use Rattle.tw_hosts.specs.Settling.{screen_view};
+ghost use Rattle.tw_prompt_host.specs.Going.{going_at_rest};
 ghost use Rattle.tw_prompt_host.specs.Plain.{with_parts};
 ghost use Rattle.tw_prompt_host.specs.Rows.{rows_view};
 ghost use Rattle.tw_prompt_host.specs.MenuLayout.{reverse_style};
@@ -34,7 +34,7 @@ impl PromptHost<NopLineEditorHost, BasicHistory, Keys<ReadlineKeys>, AllLines> {
         ensures menu { IfOk result (λ it. it.menu ≡ reverse_style cols 4) }
         ensures screen { IfOk result (λ it. screen_view it.screen
             ≡ record { cols = cols; prompt = prompt.now }) }
-        ensures going { IfOk result (λ it. going_view it.going ≡ going_at_rest) }
+        ensures going { IfOk result (λ it. it.going ≡ going_at_rest) }
     {
         let screen = PromptScreen {
             cols,

@@ -7,18 +7,15 @@ ghost use Rattle.tw_host.specs.ElementView.{element_view};
 ghost use Rattle.tw_host.specs.HostRules.{or_default};
 ghost use Rattle.tw_host.specs.KeyTable.{action_of};
 ghost use Rattle.tw_host.specs.PlainAnswers.{all_overrides, no_plain_left};
-ghost use Rattle.tw_hosts.specs.SettledRules.{screen_view};
+ghost use Rattle.tw_hosts.specs.Settling.{screen_view};
 ghost use Rattle.tw_input.specs.EventView.{event_view};
 ghost use Rattle.tw_line.specs.Cut.{cut_at};
-ghost use Rattle.tw_completion_parts.specs.Completers.{context_completer_view};
-ghost use Rattle.tw_completion_parts.specs.FileNames.{listing_view};
 ghost use Rattle.tw_key_parts.specs.EditView.{edit_view, lent_action};
-ghost use Rattle.tw_prompt_host.specs.Going.{going_at_rest, going_view, event_line};
+ghost use Rattle.tw_prompt_host.specs.Going.{going_at_rest, event_line};
 ghost use Rattle.tw_prompt_host.specs.FailingSearch.{fails_after, is_failing};
-ghost use Rattle.tw_prompt_host.specs.MenuView.{menu_view, turn_view};
-ghost use Rattle.tw_prompt_host.specs.PromptRules.{Prompted, after_line, begun_at, edit_at, event_answer, found, is_kept, judged, prompt_rules, turn_taken_at};
+ghost use Rattle.tw_prompt_host.specs.Menu.{turn_view};
+ghost use Rattle.tw_prompt_host.specs.PromptRules.{Prompted, after_line, begun_at, edit_at, found, is_kept, judged, prompt_rules, is_accepting};
 ghost use Rattle.tw_prompt_host.specs.Rows.{rows_view};
-ghost use Rattle.tw_prompt_host.specs.Validation.{is_accepting};
 
 use crate::after_line::after_line_on;
 use crate::answers::{answered, done, judged};
@@ -37,7 +34,7 @@ use tw_host::{
 };
 use tw_hosts::PromptScreen;
 use tw_input::InputEvent;
-use tw_key_parts::{Edit, KeyPart, is_filled, searches_after};
+use tw_key_parts::{Asked, Edit, KeyPart, Step, follow_event, is_filled, searches_after};
 use tw_line::{History, LentLines, LineEditBuffer, Movement};
 use tw_surface::CellAttributes;
 
@@ -156,9 +153,13 @@ impl<H: LineEditorHost, L: History + LentLines, K: KeyPart, V: Validator> Prompt
                 note: None,
             }));
         }
-        let edit = self
-            .keys
-            .edit(alloc, searching, &self.history, event, line)?;
+        let asked = Asked {
+            event,
+            searching,
+            history: &self.history,
+            line,
+        };
+        let edit = self.keys.edit(alloc, &asked)?;
         Ok(edit.map(|Edit { line, action, note }| Edit {
             line,
             action,
@@ -200,7 +201,7 @@ impl<H: LineEditorHost, L: History + LentLines, K: KeyPart, V: Validator> Prompt
         line: &LineEditBuffer,
     ) -> Result<Option<Menu>, AllocError>
         ensures { let v = ⟦<PromptHost<H, L, K, V> as LineEditorHost>⟧.value self.now in
-            IfOk result (λ begun. option_map menu_view begun
+            IfOk result (λ begun. begun
             ≡ begun_at K.keys H.rules v (lent_action action.entry) line.now) }
     {
         let is_still = matches!(self.going.menu, Menu::Closed | Menu::Few(_));
@@ -220,7 +221,7 @@ impl<H: LineEditorHost, L: History + LentLines, K: KeyPart, V: Validator> Prompt
         line: &LineEditBuffer,
         editor: &mut LineEditBuffer,
     ) -> Result<Option<Action>, AllocError>
-        requires { line.now ≡ event_line (going_view self.old.going) editor.old }
+        requires { line.now ≡ event_line self.old.going editor.old }
         ensures answer { let v = ⟦<PromptHost<H, L, K, V> as LineEditorHost>⟧.value self.old in
             let r = H.rules.resolve v.host (event_view event.now) line.now in
             IfOk result (λ action. (⟦<PromptHost<H, L, K, V> as LineEditorHost>⟧.value self.new
@@ -241,44 +242,6 @@ impl<H: LineEditorHost, L: History + LentLines, K: KeyPart, V: Validator> Prompt
         Ok(action)
     }
 
-    /// Answers an event at a line, which `editor` holds unless the line comes back, with what a part keeps of it and
-    /// where it turns the menu. Makes the parts ready to follow.
-    fn answer(
-        &mut self,
-        alloc: Global,
-        event: &InputEvent,
-        default: Option<&Action>,
-        line: &LineEditBuffer,
-        editor: &mut LineEditBuffer,
-    ) -> Result<(Option<Action>, Option<K::Note>, Option<Turn>), AllocError>
-        requires default { lent_action default ≡ action_of (event_view event.now) }
-        requires line { line.now ≡ event_line (going_view self.old.going) editor.old }
-        ensures value { let v = ⟦<PromptHost<H, L, K, V> as LineEditorHost>⟧.value self.old in
-            OnOk result (⟦<PromptHost<H, L, K, V> as LineEditorHost>⟧.value self.new
-            ≡ record v { host = (H.rules.resolve v.host (event_view event.now) line.now).value }) }
-        ensures answer { let v = ⟦<PromptHost<H, L, K, V> as LineEditorHost>⟧.value self.old in
-            IfOk result (λ it. record {
-              cut = editor.new;
-              action = option_map action_view it.0;
-              kept = option_map K.kept it.1;
-            } ≡ event_answer K.keys H.rules v (event_view event.now) line.now) }
-        ensures turn { let v = ⟦<PromptHost<H, L, K, V> as LineEditorHost>⟧.value self.old in
-            IfOk result (λ it. option_map (turn_view (menu_view self.new.going.menu)) it.2
-            ≡ turn_taken_at K.keys H.rules v (event_view event.now) line.now) }
-        ensures ready { OnOk result (K.is_ready self.new.keys line.now) }
-        ensures err { OnErr result ((editor.new ≡ editor.old)
-            × (⟦<PromptHost<H, L, K, V> as LineEditorHost>⟧.value self.new
-            ≡ ⟦<PromptHost<H, L, K, V> as LineEditorHost>⟧.value self.old)) }
-    {
-        let edit = self.edit_at(alloc, event, default, line)?;
-        let begun = self.begun(alloc, default, line)?;
-        let turn = self.going.menu.turn(event, default, begun);
-        let original = self.going.menu.line_of(alloc, turn.as_ref())?;
-        self.keys.prepare(alloc, line)?;
-        let own = self.ask_host(alloc, event, line, editor)?;
-        Ok(answered::<K>(&self.going.menu, own, edit, original, turn, editor))
-    }
-
     /// Does an answer to an event, or holds it back if it would accept a line that is kept, and lets every part follow.
     /// `fails` is true if a search would fail after the key table's action. Returns the action.
     fn settle(
@@ -296,7 +259,7 @@ impl<H: LineEditorHost, L: History + LentLines, K: KeyPart, V: Validator> Prompt
         requires ready { K.is_ready self.old.keys before }
         ensures { let v = ⟦<PromptHost<H, L, K, V> as LineEditorHost>⟧.value self.old in
             let action = option_map action_view answer.0 in
-            let turn = option_map (turn_view (menu_view self.old.going.menu)) answer.2 in
+            let turn = option_map (turn_view self.old.going.menu) answer.2 in
             let back = keeps && is_accepting (or_default action (event_view event.now)) in
             judged K.keys H.rules v (event_view event.now) before v.host
             (record { cut = after.now; action = action; kept = option_map K.kept answer.1 })
@@ -312,9 +275,14 @@ impl<H: LineEditorHost, L: History + LentLines, K: KeyPart, V: Validator> Prompt
         let (back, action) = judged(keeps, opens, event, action, default.as_ref());
         let fails = back || (action.is_none() && fails);
         let done = done(event, action.as_ref(), default.as_ref());
-        let searching = self.going.searching;
-        self.keys
-            .follow(alloc, note, searching, event, &before, after, done);
+        let step = Step {
+            event,
+            searching: self.going.searching,
+            before: &before,
+            after,
+            action: done,
+        };
+        follow_event(&mut self.keys, alloc, note, &step);
         let lines = is_filled(&self.history);
         self.going
             .follow(lines, event, before, after, done, back, fails, turn);
@@ -362,8 +330,8 @@ impl<H: LineEditorHost, L: History + LentLines, K: KeyPart, V: Validator> LineEd
       host = H.value it.host;
       lines = L.History.lines it.history;
       lent = L.LentLines.lines it.history;
-      completers = map context_completer_view it.completers.items;
-      listings = map listing_view it.listings.items;
+      completers = it.completers.items;
+      listings = it.listings.items;
       keys = K.state it.keys;
       hints = it.hints;
       stops_failing_searches = it.stops_failing_searches;
@@ -371,7 +339,7 @@ impl<H: LineEditorHost, L: History + LentLines, K: KeyPart, V: Validator> LineEd
       style = it.menu;
       screen = screen_view it.screen;
       rows = rows_view it.rows;
-      going = going_view it.going;
+      going = it.going;
     } };
 
     ghost rules = { prompt_rules K.keys H.rules };
@@ -436,7 +404,7 @@ impl<H: LineEditorHost, L: History + LentLines, K: KeyPart, V: Validator> LineEd
     ) -> Result<Vec<CompletionCandidate>, AllocError> {
         match &self.going.menu {
             Menu::Open(menu) => menu.chosen_one(alloc),
-            Menu::Few(candidates) => copy_candidates(alloc, candidates),
+            Menu::Few(candidates) => copy_candidates(alloc, &candidates.0),
             _ => self.found(alloc, line, cursor_position),
         }
     }
@@ -451,8 +419,15 @@ impl<H: LineEditorHost, L: History + LentLines, K: KeyPart, V: Validator> LineEd
         let line = self.going.comes_back.as_ref().unwrap_or(editor);
         let before = line.try_clone(alloc)?;
         let keeps = self.keeps(alloc, before.get_line())?;
-        let fails = self.fails_after(alloc, default.as_ref(), &before)?;
-        let answer = self.answer(alloc, event, default.as_ref(), &before, editor)?;
+        let key = default.as_ref();
+        let fails = self.fails_after(alloc, key, &before)?;
+        let edit = self.edit_at(alloc, event, key, &before)?;
+        let begun = self.begun(alloc, key, &before)?;
+        let turn = self.going.menu.turn(event, key, begun);
+        let original = self.going.menu.line_of(alloc, turn.as_ref())?;
+        self.keys.prepare(alloc, &before)?;
+        let own = self.ask_host(alloc, event, &before, editor)?;
+        let answer = answered::<K>(&self.going.menu, own, edit, original, turn, editor);
         Ok(self.settle(alloc, event, default, before, editor, answer, keeps, fails))
     }
 

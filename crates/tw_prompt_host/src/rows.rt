@@ -2,9 +2,10 @@
 
 ghost use Rattle.std.specs.Prelude.{◌≡◌, IfOk, OnOk, IsCharBoundary, map, string_bytes};
 ghost use Rattle.tw_host.specs.ElementView.{element_view};
-ghost use Rattle.tw_hosts.specs.SettledRules.{screen_view};
+ghost use Rattle.tw_host.specs.Faithful.{text_of_elements};
+ghost use Rattle.tw_hosts.specs.Settling.{screen_view};
 ghost use Rattle.tw_line.specs.Cut.{cut_at};
-ghost use Rattle.tw_prompt_host.specs.Rows.{are_shown, break_elements, cursor_on, elements_in_rows, elements_of_text, elements_on, empty_first_row, last_shown, next_row, row_behind, row_break, row_columns, row_edge, row_view, row_with, rows_view, spread_from};
+ghost use Rattle.tw_prompt_host.specs.Rows.{are_shown, break_elements, cursor_on, elements_in_rows, elements_of_text, elements_on, empty_first_row, last_shown, next_row, row_behind, row_break, row_columns, row_edge, row_view, row_with, rows_view};
 
 use std::alloc::{AllocError, Global};
 use tw_host::OutputElement;
@@ -84,31 +85,6 @@ fn row_break(
     Ok(between)
 }
 
-/// Returns a text that begins in `row`, with a break for each line feed. Leaves `row` as the one in which it ends.
-#[tactic(auto, using(crate::proofs::RowLemmas::spread_last, crate::proofs::RowLemmas::behind_last))]
-fn spread(
-    alloc: Global,
-    screen: &PromptScreen,
-    continuation: &str,
-    row: &mut OpenRow,
-    text: &str,
-) -> Result<String, AllocError>
-    ensures text { IfOk result (λ shown. string_bytes shown
-        ≡ spread_from (screen_view screen.now) continuation.now (row_view row.old) text.now) }
-    ensures row { OnOk result (row_view row.new ≡ row_behind (row_view row.old) text.now) }
-{
-    let mut shown = String::new(alloc);
-    let mut rest = text;
-    while let Some((piece, more)) = rest.split_once('\n') {
-        shown.push_str(piece)?;
-        shown.push_str(row_break(alloc, screen, continuation, row, piece)?.as_str())?;
-        rest = more;
-    }
-    row.text.push_str(rest)?;
-    shown.push_str(rest)?;
-    Ok(shown)
-}
-
 /// Ends a row with a text, and begins the next one. Returns the break between them, in the default attributes if the
 /// line has set others.
 fn break_elements(
@@ -161,6 +137,20 @@ fn elements_of_text(
     row.text.push_str(rest)?;
     elements.push(OutputElement::text(alloc, rest)?)?;
     Ok(elements)
+}
+
+/// Returns the text of elements.
+fn text_of(alloc: Global, elements: &[OutputElement]) -> Result<String, AllocError>
+    ensures { IfOk result (λ text. string_bytes text
+        ≡ text_of_elements (map element_view elements.now)) }
+{
+    let mut text = String::new(alloc);
+    for element in elements {
+        if let OutputElement::Text(more) = element {
+            text.push_str(more.as_str())?;
+        }
+    }
+    Ok(text)
 }
 
 /// Returns the elements of a line in rows.
@@ -233,6 +223,7 @@ impl Rows {
     /// cell for the cursor. Both have the default attributes if the line sets any.
     ///
     /// The column is that of `line`, so the texts of `elements` should be the line.
+    #[tactic(auto, using(crate::proofs::RowLemmas::text_of_rows))]
     pub fn show(
         &self,
         alloc: Global,
@@ -254,9 +245,11 @@ impl Rows {
                 let continuation = continuation.as_str();
                 let (before, rest) = line.split_at(cursor);
                 let mut row = OpenRow::first(alloc);
-                let mut text = spread(alloc, screen, continuation, &mut row, before)?;
+                let before = elements_of_text(alloc, screen, continuation, None, &mut row, before)?;
+                let mut text = text_of(alloc, &before)?;
                 let at = text.len();
-                let more = spread(alloc, screen, continuation, &mut row, rest)?;
+                let rest = elements_of_text(alloc, screen, continuation, None, &mut row, rest)?;
+                let more = text_of(alloc, &rest)?;
                 text.push_str(more.as_str())?;
                 let column = screen.column(text.as_str(), at);
                 let shown = elements_in_rows(alloc, screen, continuation, &elements)?;

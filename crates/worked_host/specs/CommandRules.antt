@@ -13,8 +13,7 @@ use Rattle.tw_lineedit.specs.HostRules.{HostRules, Highlight, plain_text, plain_
 use Rattle.tw_lineedit.specs.KeyTable.{key_press}
 use Rattle.tw_hosts.specs.Bindings.{resolved_event}
 use Rattle.tw_hosts.specs.Tokens.{styled_text}
-use Rattle.tw_hosts.specs.WordCompletion.{word_completions}
-use Rattle.tw_hosts.specs.Words.{is_known, leading_word, after_word}
+use Rattle.tw_hosts.specs.Words.{word_completions, is_known, leading_word, after_word}
 use Rattle.tw_hosts.specs.declared.bindings.Binding.TheVariants.{Cancel, Kill}
 use Rattle.tw_hosts.specs.declared.bindings.KeyBinding.{KeyBinding}
 use Rattle.worked_host.specs.Commands.{Commands}

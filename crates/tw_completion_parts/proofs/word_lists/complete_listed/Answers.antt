@@ -1,6 +1,5 @@
 use Rattle.std.proofs.Common.{◌≡◌, take, ap, ◌∙◌, rules}
-use Rattle.tw_hosts.specs.Words.{end_row}
-use Rattle.tw_completion_parts.specs.WordLists.{begun_part}
+use Rattle.tw_hosts.specs.Words.{begun_part, end_row}
 use Rattle.tw_completion_parts.proofs.word_lists.complete_listed.Goals as goal
 
 pub returns : goal.returns

@@ -5,7 +5,7 @@ use Rattle.std.proofs.lemmas.Iterator.{YieldsList-from_chars}
 use Rattle.std.proofs.lemmas.Iterator.Consumers.{fold_from_yields_List}
 use Rattle.std.proofs.lemmas.Iterator.Search.{all_from_yields_List}
 use Rattle.tw_hosts.specs.Settling.{char_columns}
-use Rattle.tw_hosts.proofs.SettlingPieces.{saturated}
+use Rattle.tw_hosts.proofs.SettlingLemmas.{saturated}
 use Rattle.tw_hosts.proofs.settling.is_parted.Goals as goal
 
 pub returns-then-all : goal.returns-then-all

@@ -1,8 +1,7 @@
 -- What was offered so far are the candidates among the words so far.
 use Rattle.std.proofs.Common.{◌≡◌, map, take}
 use Rattle.tw_host.specs.CandidateView.{candidate_view}
-use Rattle.tw_hosts.specs.WordCompletion.{words_from}
-use Rattle.tw_hosts.specs.Words.{texts_of}
+use Rattle.tw_hosts.specs.Words.{words_from, texts_of}
 use Rattle.tw_hosts.proofs.words.words_from.Given as goal
 
 abbrev pub invariant-loop-word : goal.invariant-loop-word

@@ -1,12 +1,14 @@
-use Rattle.std.proofs.Common.{arith, rules}
-use Rattle.tw_key_parts.proofs.PrefixLemmas.{inside}
+use Rattle.std.proofs.Common.{◌≡◌, Some, arith, rules, sym}
+use Rattle.tw_line.specs.NearestMatch.{last_index}
 use Rattle.tw_key_parts.proofs.StepLemmas.{least_steps}
 use Rattle.tw_key_parts.proofs.prefix_search.newer_match_from.Goals as goal
 
 pub returns-in-Some-2 : goal.returns-in-Some-2
 returns-in-Some-2 g c =
-    grind (arith, least_steps, inside (g.L.History.lines c.args.lines.now) c.in-Some.last c.loop-index.index (search rules) c.loop-index-test.true)
+    let last : Some c.in-Some.last ≡ last_index (g.L.History.lines c.args.lines.now) = search rules in
+    search (rules, least_steps, sym last)
 
 pub loop-index-preserved : goal.loop-index-preserved
 loop-index-preserved g c =
-    grind (arith, least_steps, inside (g.L.History.lines c.args.lines.now) c.in-Some.last c.loop-index.index (search rules) c.loop-index-test.true)
+    let last : Some c.in-Some.last ≡ last_index (g.L.History.lines c.args.lines.now) = search rules in
+    grind (arith, least_steps, sym last, c.loop-index-test.true)

@@ -1,15 +1,18 @@
-use Rattle.std.proofs.Common.{Some, None, arith}
+use Rattle.std.proofs.Common.{Some, None, length, ap, ◌∙◌, ◌==◌, arith, length-drop}
 use Rattle.std.proofs.lemmas.Str.Pattern.{find_char}
-use Rattle.tw_key_parts.proofs.RowLemmas.{end-found, end-missing}
+use Rattle.tw_surface.specs.Characters.{lf}
+use Rattle.std.specs.List.{position_or_len}
+use Rattle.tw_key_parts.proofs.StepLemmas.{feed_found}
 use Rattle.tw_key_parts.proofs.row_keys.row_end.Goals as goal
 
 pub returns-in-Some-clause-value : goal.returns-in-Some-clause-value
 returns-in-Some-clause-value c =
     let text = c.range_from.result.now in
-    let (low, there, none) = find_char 10 text (Some c.in-Some.feed) c.in-Some.ensures.cases (omega arith) in
-    end-found c.args.line.now text c.args.at c.requires.0 c.range_from.ensures.value c.in-Some.feed low there none
+    let found = find_char 10 text (Some c.in-Some.feed) c.in-Some.ensures.cases (omega arith) in
+    omega (arith, feed_found text (Some c.in-Some.feed) found ∙ ap (position_or_len (λ byte. byte == lf)) c.range_from.ensures.value, found.0, ap length c.range_from.ensures.value, length-drop c.args.at c.args.line.now)
 
 pub returns-in-None-clause-value : goal.returns-in-None-clause-value
 returns-in-None-clause-value c =
     let text = c.range_from.result.now in
-    end-missing c.args.line.now text c.args.at c.requires.0 c.range_from.ensures.value (find_char 10 text None c.in-None.ensures.cases (omega arith))
+    let found = find_char 10 text None c.in-None.ensures.cases (omega arith) in
+    omega (arith, feed_found text None found ∙ ap (position_or_len (λ byte. byte == lf)) c.range_from.ensures.value, ap length c.range_from.ensures.value, length-drop c.args.at c.args.line.now, c.requires.0)

@@ -1,7 +1,7 @@
 -- The elements so far, and those that are left in rows, are all in rows.
 use Rattle.std.proofs.Common.{◌≡◌, ◌++◌, drop, map, None}
 use Rattle.tw_host.specs.ElementView.{element_view}
-use Rattle.tw_hosts.specs.SettledRules.{screen_view}
+use Rattle.tw_hosts.specs.Settling.{screen_view}
 use Rattle.tw_prompt_host.specs.Rows.{elements_from, empty_first_row, row_view}
 use Rattle.tw_prompt_host.proofs.rows.elements_in_rows.Given as goal
 

@@ -2,9 +2,9 @@ use Rattle.std.proofs.Common.{◌≡◌, ◌++◌, ◌∷◌, [], Some, map, ari
 use Rattle.std.proofs.lemmas.List.{map-append}
 use Rattle.std.proofs.lemmas.Str.Pattern.{split_parts}
 use Rattle.tw_host.specs.ElementView.{element_view, Text}
-use Rattle.tw_hosts.specs.SettledRules.{screen_view}
+use Rattle.tw_hosts.specs.Settling.{screen_view}
 use Rattle.tw_prompt_host.specs.Rows.{elements_of_text, next_row, row_behind, row_view}
-use Rattle.tw_prompt_host.proofs.RowLemmas.{behind-step, elements-feed, shown-step}
+use Rattle.tw_prompt_host.proofs.RowLemmas.{behind-step, elements-feed, no-feed, shown-step}
 use Rattle.tw_prompt_host.proofs.rows.elements_of_text.Goals as goal
 
 pub loop-piece-preserved : goal.loop-piece-preserved
@@ -22,7 +22,7 @@ loop-piece-preserved c =
     let begun = c.in_ok-break_elements.ensures.row in
     let parts = split_parts 10 rest (Some (c.in-Some.piece, c.in-Some.more)) c.in-Some.ensures.cases (omega arith) in
     let is : elements_of_text screen continuation set row rest ≡ Text piece ∷ (between ++ left) =
-    ap (elements_of_text screen continuation set row) parts.0 ∙ elements-feed screen continuation set row piece more parts.1
+    ap (elements_of_text screen continuation set row) parts.0 ∙ elements-feed screen continuation set row piece more (no-feed piece parts.1)
     ∙ ap (λ elements. Text piece ∷ (elements ++ left)) (sym c.in_ok-break_elements.ensures.elements) in
     let first : map element_view c.push.new.self.items ≡ shown ++ Text piece ∷ [] = search (rules, map-append) in
     let new : map element_view c.append.new.self.items ≡ (shown ++ Text piece ∷ []) ++ between =

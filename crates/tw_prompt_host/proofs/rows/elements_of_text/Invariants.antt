@@ -2,7 +2,7 @@
 use Rattle.std.proofs.Common.{◌≡◌, ◌++◌, length, map}
 use Rattle.std.specs.Str.{IsUtf8}
 use Rattle.tw_host.specs.ElementView.{element_view}
-use Rattle.tw_hosts.specs.SettledRules.{screen_view}
+use Rattle.tw_hosts.specs.Settling.{screen_view}
 use Rattle.tw_prompt_host.specs.Rows.{elements_of_rows, row_behind, row_view, rows_of_text}
 use Rattle.tw_prompt_host.proofs.rows.elements_of_text.Given as goal
 

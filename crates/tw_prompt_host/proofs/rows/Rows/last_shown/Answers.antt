@@ -1,6 +1,6 @@
 use Rattle.std.proofs.Common.{◌≡◌, Some, sym, ◌∙◌, ap, arith, rules}
 use Rattle.std.proofs.lemmas.Str.Pattern.{drop_at_char}
-use Rattle.tw_hosts.specs.SettledRules.{screen_view}
+use Rattle.tw_hosts.specs.Settling.{screen_view}
 use Rattle.tw_prompt_host.specs.Rows.{last_shown, rows_view}
 use Rattle.tw_prompt_host.proofs.RowLemmas.{last-behind}
 use Rattle.tw_prompt_host.proofs.rows.Rows.last_shown.Goals as goal
