@@ -1,6 +1,8 @@
 //! The last words of the lines of a history.
 
 ghost use Rattle.std.specs.Prelude.{◌≡◌, None};
+ghost use Rattle.tw_input.specs.EventView.{event_view};
+ghost use Rattle.tw_key_parts.specs.Keys.{is_key, last_word_key};
 
 use crate::edit::{Edit, EditResult};
 use crate::keys::{is_key, key_of};
@@ -9,7 +11,7 @@ use crate::recalled::{Recalled, line_before_recall, older_index};
 use std::alloc::{AllocError, Global};
 use tw_host::Action;
 use tw_hosts::{end_row, last_word};
-use tw_input::Modifiers;
+use tw_input::{InputEvent, Modifiers};
 use tw_line::{History, LineEditBuffer};
 
 /// Alt-. inserts the last word of the last line of the history. Another Alt-. right after it replaces it by the last
@@ -26,6 +28,13 @@ impl LastWords {
     {
         LastWords { word: None }
     }
+}
+
+/// Returns true for Alt-., the key of the part.
+fn is_last_word_key(event: &InputEvent) -> bool
+    ensures { result ≡ is_key last_word_key (event_view event.now) }
+{
+    is_key(key_of(Modifiers::ALT, '.'), event)
 }
 
 impl KeyPart for LastWords {
@@ -48,7 +57,7 @@ impl KeyPart for LastWords {
     ghost is_ready = { λ it cut. Unit {0} };
 
     fn edit<L: History>(&self, alloc: Global, asked: &Asked<'_, L>) -> EditResult<Recalled> {
-        if asked.searching || !is_key(key_of(Modifiers::ALT, '.'), asked.event) {
+        if asked.searching || !is_last_word_key(asked.event) {
             return Ok(None);
         }
         let Some(index) = older_index(self.word.as_ref(), asked.history) else {
@@ -72,7 +81,7 @@ impl KeyPart for LastWords {
     }
 
     fn follow(&mut self, _alloc: Global, step: &Step<'_>) {
-        if step.action.is_some() || !is_key(key_of(Modifiers::ALT, '.'), step.event) {
+        if step.action.is_some() || !is_last_word_key(step.event) {
             self.word = None;
         }
     }
