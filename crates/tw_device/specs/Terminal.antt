@@ -1,14 +1,20 @@
 -- What contracts see of a terminal over a writer.
 use Rattle.std.specs.Prelude.{[], length}
 use Rattle.tw_terminal.specs.TerminalState.{TerminalState}
+use Rattle.tw_terminal.specs.declared.terminal.ScreenSize.{ScreenSize}
+use Rattle.tw_device.specs.declared.batch_writer.BatchWriter.{BatchWriter}
 use Rattle.tw_device.specs.declared.terminal.AnsiTerminal.{AnsiTerminal}
 
--- a terminal over a writer: no event is left, and the batches are those of its log
-abbrev pub terminal_state : {W : Type 0} → AnsiTerminal W → TerminalState
-terminal_state it = record {
-  size = it.size;
+-- a terminal of this size that writes so: no event is left, and the batches are those of its log
+abbrev pub state_at : {W : Type 0} → ScreenSize → BatchWriter W → TerminalState
+state_at size it = record {
+  size = size;
   events = [];
   batches = it.batches;
   flushed = length it.flushed.value;
   failures = it.failures;
 }
+
+-- a terminal over a writer
+abbrev pub terminal_state : {W : Type 0} → AnsiTerminal W → TerminalState
+terminal_state it = state_at it.size it.output

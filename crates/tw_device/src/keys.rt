@@ -240,22 +240,19 @@ impl<R: Read> EventSource for KeyReader<R> {
         (held_by R.remaining new) events };
 
     /// Takes bytes at the front and tells what they are, each of them once. There are no more events only if the
-    /// reader has no more bytes and all are taken. `held_up` says why a call fails. If an event is
-    /// at hand, the reader is not asked.
+    /// reader has no more bytes and all are taken. `err` says why a call fails. The reader is not asked if an event is
+    /// at hand.
     fn next_event(&mut self) -> Result<Option<InputEvent>, TerminalFault>
         ensures ok { IfOk result (λ event. MatchOption event
-            ((self.new.told ≡ self.old.told) × (self.new.state ≡ AtEnd))
-            (λ event. self.new.told ≡ self.old.told ++ event_view event ∷ [])) }
-        ensures going { IfOk result (λ event. IfSome event (λ _. self.new.state ≡ Going)) }
-        ensures told { OnErr result (self.new.told ≡ self.old.told) }
-        ensures refused { IfErr result (λ fault. self.new.state ≡ HasRefused fault) }
+            ((self.new.told ≡ self.old.told) × (self.new.state ≡ AtEnd)
+            × (self.new.unread ≡ []) × IsAtEnd (R.remaining self.new.reader))
+            (λ event. (self.new.told ≡ self.old.told ++ event_view event ∷ [])
+            × (self.new.state ≡ Going))) }
+        ensures err { IfErr result (λ fault. (self.new.told ≡ self.old.told)
+            × (self.new.state ≡ HasRefused fault)
+            × IsHeldUp fault (held_by R.remaining self.old) (held_by R.remaining self.new)) }
         ensures follows { TellsTyped (held_by R.remaining self.old) (held_by R.remaining self.new)
             (answer_events result) }
-        ensures at_end { IfOk result (λ event. MatchOption event
-            ((self.new.unread ≡ []) × IsAtEnd (R.remaining self.new.reader))
-            (λ _. ⊤)) }
-        ensures held_up { IfErr result (λ fault. IsHeldUp fault
-            (held_by R.remaining self.old) (held_by R.remaining self.new)) }
         ensures at_hand { is_at_hand (held_by R.remaining self.old) ≡ true → self.new.reader
             ≡ self.old.reader }
     {

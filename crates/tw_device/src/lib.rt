@@ -1,11 +1,27 @@
 //! A line editor at a device: a terminal over a writer, events from a reader, and lines that are read as these come.
 //!
-//! `device` says what a terminal at a device is, and `terminal` has the one over a writer; `keys` the source of events
-//! over a reader, with `unread`, the bytes that were read and are not yet taken, `escape`, what an ESC alone is, and
-//! `pasted`, what a pasted text becomes; `reading` reads a line as the events come, and `typed` one from the bytes of a
-//! reader. `event_log` has the events that a source told, which only contracts name.
+//! Use `read_typed_line` to read a line from any `Read` and `Write`, and `read_line_from` with events or a terminal of
+//! your own; `Prompt` of `tw_prompt` is the same with all comforts.
+//!
+//! From `crates/test_device/src/wire.rt`:
+//!
+//! ```
+//! let mut host = NopLineEditorHost::new(alloc);
+//! let mut keys = KeyReader::new(alloc, typed.as_bytes());
+//! let size = ScreenSize { rows: 24, cols: 80 };
+//! ..
+//!     let mut terminal = PatientTerminal::new(alloc, Wire::new(&mut taken, 0), size);
+//!     read_typed_line(alloc, &mut keys, &mut terminal, &mut host, "> ")?
+//! ```
+//!
+//! `device` says what a terminal at a device is, `terminal` has the one over a writer, and `batch_writer` what the
+//! terminals over a writer share; `keys` the source of events over a reader, with `unread`, the bytes that were read
+//! and are not yet taken, `escape`, what an ESC alone is, and `pasted`, what a pasted text becomes; `reading` reads a
+//! line as the events come, and `typed` one from the bytes of a reader. `event_log` has the events that a source told,
+//! which only contracts name.
 #![tactic(auto)]
 
+mod batch_writer;
 mod device;
 mod escape;
 mod event_log;
@@ -17,6 +33,7 @@ mod terminal;
 mod typed;
 mod unread;
 
+pub use batch_writer::{BatchWriter, encode_batch};
 pub use device::DeviceTerminal;
 pub use escape::Escape;
 pub use event_log::EventLog;

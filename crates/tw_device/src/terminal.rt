@@ -12,55 +12,46 @@ ghost use Rattle.tw_terminal.specs.declared.terminal.TerminalFault.TheVariants.{
 ghost use Rattle.tw_device.specs.Deeds.{Called, Does, Said, Sized};
 ghost use Rattle.tw_device.specs.Terminal.{terminal_state};
 
+use crate::batch_writer::{BatchWriter, encode_batch};
 use crate::device::DeviceTerminal;
-use std::alloc::{AllocError, Global};
+use std::alloc::Global;
 use std::io::Write;
-use std::snapshot::Snapshot;
-use tw_ansi::Encoder;
 use tw_input::InputEvent;
 use tw_surface::Change;
-use tw_terminal::{BatchLog, ScreenSize, Terminal, TerminalFault};
+use tw_terminal::{ScreenSize, Terminal, TerminalFault};
 
 /// A terminal over a writer. It has no events, and the size that its owner gives it.
 #[derive(Drop)]
 pub struct AnsiTerminal<W> {
     alloc: Global,
-    writer: W,
-    encoder: Encoder,
     size: ScreenSize,
-    batches: BatchLog,
-    flushed: Snapshot<BatchLog>,
-    failures: usize,
+    output: BatchWriter<W>,
 }
 
 impl<W: Write> AnsiTerminal<W> {
     /// Creates a terminal of this size, whose cursor stands in column 0.
     pub fn new(alloc: Global, writer: W, size: ScreenSize) -> Self
         ensures state { terminal_state result ≡ fresh_terminal size [] }
-        ensures known { result.encoder ≡ first_known size.cols }
-        ensures writer { result.writer ≡ writer }
+        ensures known { result.output.encoder ≡ first_known size.cols }
+        ensures writer { result.output.writer ≡ writer }
     {
-        let batches = BatchLog::new();
-        let flushed = Snapshot::of(&batches);
+        let output = BatchWriter::new(writer, size.cols);
         AnsiTerminal {
             alloc,
-            writer,
-            encoder: Encoder::new(size.cols),
             size,
-            batches,
-            flushed,
-            failures: 0,
+            output,
         }
     }
 
     /// Sets the size, which nothing else changes.
     pub fn set_screen_size(&mut self, size: ScreenSize)
         ensures state { terminal_state self.new ≡ record (terminal_state self.old) { size = size } }
-        ensures known { self.new.encoder ≡ record self.old.encoder { cols = size.cols } }
-        ensures writer { self.new.writer ≡ self.old.writer }
+        ensures known { self.new.output.encoder
+            ≡ record self.old.output.encoder { cols = size.cols } }
+        ensures writer { self.new.output.writer ≡ self.old.output.writer }
         ensures sized { Does W.contents self.old self.new (Sized size) }
     {
-        self.encoder.set_cols(size.cols);
+        self.output.encoder.set_cols(size.cols);
         self.size = size;
     }
 
@@ -68,66 +59,29 @@ impl<W: Write> AnsiTerminal<W> {
     /// has to leave the cursor in column 0, and no attribute set. A refusal may have sent a beginning.
     pub fn send(&mut self, text: &str) -> Result<(), TerminalFault>
         ensures kept { terminal_state self.new ≡ terminal_state self.old }
-        ensures sent { let bytes = set_attributes default_attributes ++ text.now in
-            OnOk result (Appends (W.contents self.old.writer) (W.contents self.new.writer) bytes) }
-        ensures next { OnOk result (self.new.encoder ≡ without_attributes self.old.encoder) }
-        ensures known { OnErr result (self.new.encoder ≡ self.old.encoder) }
+        ensures known { OnErr result (self.new.output.encoder ≡ self.old.output.encoder) }
         ensures said { OnOk result (Does W.contents self.old self.new (Said text.now)) }
     {
-        let mut encoder = self.encoder;
-        self.write(encoder.reset())?;
-        self.write(text)?;
-        self.encoder = encoder;
-        Ok(())
+        let encoder = self.output.encoder;
+        self.output.send(encoder, text)
     }
 
-    /// Writes a text as it is.
-    fn write(&mut self, text: &str) -> Result<(), TerminalFault>
-        ensures kept { terminal_state self.new ≡ terminal_state self.old }
-        ensures known { self.new.encoder ≡ self.old.encoder }
-        ensures sent { OnOk result (Appends (W.contents self.old.writer)
-            (W.contents self.new.writer) text.now) }
-        ensures failed { IfErr result (λ fault. fault ≡ Device) }
-    {
-        match self.writer.write_all(text.as_bytes()) {
-            Ok(()) => Ok(()),
-            Err(_) => Err(TerminalFault::Device),
-        }
-    }
-
-    /// Appends what a batch is sent as, and returns what is then known.
-    fn encode(&self, changes: &[Change], text: &mut String) -> Result<Encoder, AllocError>
-        ensures bytes { let sent = sent_batch (batch_view changes.now) self.now.encoder in
-            OnOk result (string_bytes text.new ≡ string_bytes text.old ++ sent.bytes) }
-        ensures next { IfOk result (λ encoder. encoder
-            ≡ (sent_batch (batch_view changes.now) self.now.encoder).next) }
-    {
-        let mut encoder = self.encoder;
-        for change in changes {
-            encoder.encode(change, text)?;
-        }
-        Ok(encoder)
-    }
-
-    /// Sends a batch.
+    /// Sends a batch. A refusal changes nothing but what is written.
     fn put(&mut self, changes: &[Change]) -> Result<(), TerminalFault>
-        ensures sent { let sent = sent_batch (batch_view changes.now) self.old.encoder in
-            OnOk result (Appends (W.contents self.old.writer)
-            (W.contents self.new.writer) sent.bytes) }
-        ensures next { OnOk result (self.new.encoder
-            ≡ (sent_batch (batch_view changes.now) self.old.encoder).next) }
         ensures ok { OnOk result (Renders (batch_view changes.now) (terminal_state self.old)
             (terminal_state self.new)) }
-        ensures err { OnErr result (terminal_state self.new ≡ terminal_state self.old) }
-        ensures known { OnErr result (self.new.encoder ≡ self.old.encoder) }
-        ensures unsent { IfErr result (λ fault. fault ≡ Memory → self.new.writer
-            ≡ self.old.writer) }
+        ensures took { OnOk result (Does W.contents self.old self.new
+            (Called (Took (batch_view changes.now)))) }
+        ensures err { OnErr result (self.new ≡ record self.old {
+          output = record self.old.output { writer = self.new.output.writer };
+        }) }
+        ensures unsent { IfErr result (λ fault. fault ≡ Memory → self.new.output.writer
+            ≡ self.old.output.writer) }
     {
         let mut text = String::new(self.alloc);
-        let encoder = self.encode(changes, &mut text)?;
-        self.write(text.as_str())?;
-        self.encoder = encoder;
-        self.batches = self.batches.with_batch(changes);
+        let encoder = encode_batch(changes, self.output.encoder, &mut text)?;
+        self.output.write(text.as_str())?;
+        self.output.take(changes, encoder);
         Ok(())
     }
 }
@@ -162,41 +116,26 @@ impl<W: Write> Terminal for AnsiTerminal<W> {
             (terminal_state self.new)) }
         ensures err { OnErr result (RenderFails (batch_view changes.now) (terminal_state self.old)
             (terminal_state self.new)) }
-        ensures sent { let sent = sent_batch (batch_view changes.now) self.old.encoder in
-            OnOk result (Appends (W.contents self.old.writer)
-            (W.contents self.new.writer) sent.bytes) }
-        ensures next { OnOk result (self.new.encoder
-            ≡ (sent_batch (batch_view changes.now) self.old.encoder).next) }
-        ensures known { OnErr result (self.new.encoder ≡ self.old.encoder) }
-        ensures unsent { IfErr result (λ fault. fault ≡ Memory → self.new.writer
-            ≡ self.old.writer) }
         ensures took { OnOk result (Does W.contents self.old self.new
             (Called (Took (batch_view changes.now)))) }
         ensures refused { OnErr result (Does W.contents self.old self.new (Called BatchRefused)) }
+        ensures unsent { IfErr result (λ fault. fault ≡ Memory → self.new.output.writer
+            ≡ self.old.output.writer) }
     {
-        match self.put(changes) {
-            Ok(()) => Ok(()),
-            Err(fault) => {
-                self.failures = self.failures.saturating_add(1);
-                Err(fault)
-            }
-        }
+        let sent = self.put(changes);
+        self.output.counted(sent)
     }
 
     /// Flushes the writer, to which it adds no byte.
     fn flush(&mut self) -> Result<(), TerminalFault>
         ensures ok { OnOk result (Flushes (terminal_state self.old) (terminal_state self.new)) }
         ensures err { OnErr result (Fails (terminal_state self.old) (terminal_state self.new)) }
-        ensures known { self.new.encoder ≡ self.old.encoder }
-        ensures writer { Keeps (W.contents self.old.writer) (W.contents self.new.writer) }
+        ensures known { self.new.output.encoder ≡ self.old.output.encoder }
+        ensures writer { Keeps (W.contents self.old.output.writer)
+            (W.contents self.new.output.writer) }
         ensures follows { Does W.contents self.old self.new (Called Other) }
     {
-        if self.writer.flush().is_err() {
-            self.failures = self.failures.saturating_add(1);
-            return Err(TerminalFault::Device);
-        }
-        self.flushed = Snapshot::of(&self.batches);
-        Ok(())
+        self.output.flush()
     }
 }
 

@@ -18,7 +18,7 @@ use Rattle.tw_device.specs.declared.reading.Answer.{Answer}
 use Rattle.tw_device.specs.declared.reading.Answer.TheVariants.{Line, Cancelled, End}
 use Rattle.tw_sparing.specs.declared.patient.PatientTerminal.{PatientTerminal}
 use Rattle.tw_sparing.specs.Ahead.{AheadView}
-use Rattle.tw_sparing.specs.Patient.{patient_state}
+use Rattle.tw_sparing.specs.Terminal.{patient_state}
 use Rattle.tw_sparing.specs.PatientDeeds.{FollowsPatiently, IsTakenPatiently}
 use Rattle.tw_sparing.specs.PatientRuns.{AnsweredReadingIsSent, LastBatchIsSent}
 

@@ -6,6 +6,5 @@ pub mod SparingDeeds
 pub mod SparingRuns
 pub mod Terminal
 pub mod Ahead
-pub mod Patient
 pub mod PatientDeeds
 pub mod PatientRuns

@@ -10,7 +10,7 @@ ghost use Rattle.tw_terminal.specs.declared.terminal.TerminalFault.TheVariants.{
 ghost use Rattle.tw_device.specs.Deeds.{Called, Said, Sized, sent_deed};
 ghost use Rattle.tw_sparing.specs.Ahead.{groups_with, sent_ahead, latest_known, settled_at, IsJoined};
 ghost use Rattle.tw_sparing.specs.PatientDeeds.{DoesPatiently, FollowsPatiently, IsTakenPatiently, SendsGroups};
-ghost use Rattle.tw_sparing.specs.Patient.{patient_state};
+ghost use Rattle.tw_sparing.specs.Terminal.{lost_at, patient_state};
 ghost use Rattle.tw_sparing.specs.Shown.{IsKnownAfter};
 ghost use Rattle.tw_sparing.specs.SparingRuns.{AreKnownSince};
 
@@ -18,12 +18,11 @@ use crate::ahead::Ahead;
 use crate::shown::{Shown, ends_at_start, is_at_start};
 use std::alloc::Global;
 use std::io::Write;
-use std::snapshot::Snapshot;
 use tw_ansi::Encoder;
-use tw_device::DeviceTerminal;
+use tw_device::{BatchWriter, DeviceTerminal};
 use tw_input::InputEvent;
 use tw_surface::Change;
-use tw_terminal::{BatchLog, ScreenSize, Terminal, TerminalFault};
+use tw_terminal::{ScreenSize, Terminal, TerminalFault};
 
 /// A terminal over a writer, as `SparingTerminal` is. It has no events, and the size that its owner gives it. While its
 /// owner says that more events are at hand it keeps batches back, as long as one difference takes all of them; the next
@@ -32,12 +31,8 @@ use tw_terminal::{BatchLog, ScreenSize, Terminal, TerminalFault};
 #[derive(Drop)]
 pub struct PatientTerminal<W> {
     alloc: Global,
-    writer: W,
-    encoder: Encoder,
+    output: BatchWriter<W>,
     ahead: Ahead,
-    batches: BatchLog,
-    flushed: Snapshot<BatchLog>,
-    failures: usize,
     at_start: bool,
     is_more: bool,
 }
@@ -46,21 +41,16 @@ impl<W: Write> PatientTerminal<W> {
     /// Creates a terminal of this size, whose cursor stands in column 0. No more is at hand.
     pub fn new(alloc: Global, writer: W, size: ScreenSize) -> Self
         ensures state { patient_state result ≡ fresh_terminal size [] }
-        ensures known { result.encoder ≡ first_known size.cols }
+        ensures known { result.output.encoder ≡ first_known size.cols }
         ensures ahead { result.ahead ≡ settled_at size None }
         ensures more { result.is_more ≡ false }
-        ensures writer { result.writer ≡ writer }
+        ensures writer { result.output.writer ≡ writer }
     {
-        let batches = BatchLog::new();
-        let flushed = Snapshot::of(&batches);
+        let output = BatchWriter::new(writer, size.cols);
         PatientTerminal {
             alloc,
-            writer,
-            encoder: Encoder::new(size.cols),
+            output,
             ahead: Ahead::new(size, None),
-            batches,
-            flushed,
-            failures: 0,
             at_start: true,
             is_more: false,
         }
@@ -70,11 +60,7 @@ impl<W: Write> PatientTerminal<W> {
     /// changes. Where no more is at hand the next batch is sent, and what is kept back with it: so an owner says it
     /// before the last event.
     pub fn set_more_at_hand(&mut self, is_more: bool)
-        ensures state { patient_state self.new ≡ patient_state self.old }
-        ensures known { self.new.encoder ≡ self.old.encoder }
-        ensures ahead { self.new.ahead ≡ self.old.ahead }
-        ensures more { self.new.is_more ≡ is_more }
-        ensures writer { self.new.writer ≡ self.old.writer }
+        ensures more { self.new ≡ record self.old { is_more = is_more } }
         ensures called { DoesPatiently W.contents self.old self.new (Called Other) }
     {
         self.is_more = is_more;
@@ -87,13 +73,14 @@ impl<W: Write> PatientTerminal<W> {
         ensures state { patient_state self.new ≡ record (patient_state self.old) { size = size } }
         ensures ahead { self.new.ahead ≡ settled_at size None }
         ensures more { self.new.is_more ≡ self.old.is_more }
-        ensures writer { self.old.ahead.kept ≡ [] → self.new.writer ≡ self.old.writer }
+        ensures writer { self.old.ahead.kept ≡ [] → self.new.output.writer
+            ≡ self.old.output.writer }
         ensures sized { DoesPatiently W.contents self.old self.new (Sized size) }
     {
         if let Ok(encoder) = self.catch_up() {
-            self.encoder = encoder;
+            self.output.encoder = encoder;
         }
-        self.encoder.set_cols(size.cols);
+        self.output.encoder.set_cols(size.cols);
         self.ahead = Ahead::new(size, None);
     }
 
@@ -102,11 +89,7 @@ impl<W: Write> PatientTerminal<W> {
     /// is not known. A refusal may have sent a beginning, and what was kept back is lost with it.
     pub fn send(&mut self, text: &str) -> Result<(), TerminalFault>
         ensures kept { patient_state self.new ≡ patient_state self.old }
-        ensures sent { let sent = sent_then (sent_ahead self.old.ahead self.old.encoder)
-            (sent_deed (Said text.now)) in
-            OnOk result (Appends (W.contents self.old.writer) (W.contents self.new.writer)
-            sent.bytes × (self.new.encoder ≡ sent.next)) }
-        ensures refused { OnErr result ((self.new.encoder ≡ self.old.encoder)
+        ensures refused { OnErr result ((self.new.output.encoder ≡ self.old.output.encoder)
             × (self.new.at_start ≡ false)) }
         ensures ahead { self.new.ahead ≡ settled_at self.old.ahead.size None }
         ensures more { self.new.is_more ≡ self.old.is_more }
@@ -114,10 +97,7 @@ impl<W: Write> PatientTerminal<W> {
     {
         let caught = self.catch_up();
         self.at_start = false;
-        let mut encoder = caught?;
-        self.write(encoder.reset())?;
-        self.write(text)?;
-        self.encoder = encoder;
+        self.output.send(caught?, text)?;
         self.at_start = true;
         Ok(())
     }
@@ -125,47 +105,34 @@ impl<W: Write> PatientTerminal<W> {
     /// Sends what is kept back, and returns what is then known, which it does not yet keep. What is refused is lost.
     /// What the terminal shows is not known afterwards.
     fn catch_up(&mut self) -> Result<Encoder, TerminalFault>
-        ensures state { patient_state self.new ≡ patient_state self.old }
-        ensures encoder { self.new.encoder ≡ self.old.encoder }
-        ensures ahead { self.new.ahead ≡ settled_at self.old.ahead.size None }
-        ensures more { self.new.is_more ≡ self.old.is_more }
-        ensures sent { OnOk result (Appends (W.contents self.old.writer)
-            (W.contents self.new.writer) (sent_ahead self.old.ahead self.old.encoder).bytes) }
+        ensures kept { self.new ≡ record self.old {
+          output = record self.old.output { writer = self.new.output.writer };
+          ahead = settled_at self.old.ahead.size None;
+          at_start = self.new.at_start;
+        } }
+        ensures sent { OnOk result (Appends (W.contents self.old.output.writer)
+            (W.contents self.new.output.writer)
+            (sent_ahead self.old.ahead self.old.output.encoder).bytes) }
         ensures next { IfOk result (λ next. next
-            ≡ (sent_ahead self.old.ahead self.old.encoder).next) }
+            ≡ (sent_ahead self.old.ahead self.old.output.encoder).next) }
         ensures start { OnErr result (self.new.at_start ≡ false) }
-        ensures settled { self.old.ahead.kept ≡ [] → result ≡ Ok self.old.encoder }
-        ensures writer { self.old.ahead.kept ≡ [] → self.new.writer ≡ self.old.writer }
+        ensures settled { self.old.ahead.kept ≡ [] → (result ≡ Ok self.old.output.encoder)
+            × (self.new.output.writer ≡ self.old.output.writer) }
     {
         let size = self.ahead.size();
         if self.ahead.is_settled() {
             self.ahead = Ahead::new(size, None);
-            return Ok(self.encoder);
+            return Ok(self.output.encoder);
         }
         let mut text = String::new(self.alloc);
-        let encoded = self.ahead.send_kept(self.alloc, self.encoder, &mut text);
+        let encoded = self
+            .ahead
+            .send_kept(self.alloc, self.output.encoder, &mut text);
         self.ahead = Ahead::new(size, None);
         self.at_start = false;
         let encoder = encoded?;
-        self.write(text.as_str())?;
+        self.output.write(text.as_str())?;
         Ok(encoder)
-    }
-
-    /// Writes a text as it is.
-    fn write(&mut self, text: &str) -> Result<(), TerminalFault>
-        ensures state { patient_state self.new ≡ patient_state self.old }
-        ensures encoder { self.new.encoder ≡ self.old.encoder }
-        ensures ahead { self.new.ahead ≡ self.old.ahead }
-        ensures more { self.new.is_more ≡ self.old.is_more }
-        ensures start { self.new.at_start ≡ self.old.at_start }
-        ensures sent { OnOk result (Appends (W.contents self.old.writer)
-            (W.contents self.new.writer) text.now) }
-        ensures failed { IfErr result (λ fault. fault ≡ Device) }
-    {
-        match self.writer.write_all(text.as_bytes()) {
-            Ok(()) => Ok(()),
-            Err(_) => Err(TerminalFault::Device),
-        }
     }
 
     /// Sends a batch with what is kept back, in one write, by what is known after it. After a refusal it is not known
@@ -179,22 +146,18 @@ impl<W: Write> PatientTerminal<W> {
         requires known { IsKnownAfter self.old.ahead.size.cols self.old.ahead.size.rows
             (batch_view changes.now) (latest_known self.old.ahead) next }
         requires joined { is_joined ≡ true → IsJoined (batch_view changes.now) self.old.ahead next }
-        requires groups { AreKnownSince self.old.ahead.size self.old.ahead.shown self.old.encoder
-            (groups_with is_joined (batch_view changes.now) self.old.ahead next) }
+        requires groups { AreKnownSince self.old.ahead.size self.old.ahead.shown
+            self.old.output.encoder (groups_with is_joined (batch_view changes.now) self.old.ahead next) }
         ensures ok { OnOk result (Renders (batch_view changes.now) (patient_state self.old)
             (patient_state self.new)) }
-        ensures err { OnErr result (patient_state self.new ≡ patient_state self.old) }
         ensures sent { OnOk result (SendsGroups W.contents
             (groups_with is_joined (batch_view changes.now) self.old.ahead next)
             self.old self.new) }
         ensures shown { OnOk result (self.new.ahead.shown ≡ next) }
         ensures more { OnOk result (self.new.is_more ≡ self.old.is_more) }
-        ensures known { OnErr result (self.new.encoder ≡ self.old.encoder) }
-        ensures lost { OnErr result ((self.new.ahead ≡ settled_at self.old.ahead.size None)
-            × (self.new.at_start ≡ false)) }
-        ensures last { OnErr result (self.new.is_more ≡ false) }
-        ensures unsent { IfErr result (λ fault. fault ≡ Memory → self.new.writer
-            ≡ self.old.writer) }
+        ensures err { OnErr result (self.new ≡ lost_at self.new.output.writer self.old) }
+        ensures unsent { IfErr result (λ fault. fault ≡ Memory → self.new.output.writer
+            ≡ self.old.output.writer) }
     {
         let mut text = String::new(self.alloc);
         let encoded = self.ahead.send_with(
@@ -202,7 +165,7 @@ impl<W: Write> PatientTerminal<W> {
             changes,
             &next,
             is_joined,
-            self.encoder,
+            self.output.encoder,
             &mut text,
         );
         let was_more = self.is_more;
@@ -211,12 +174,11 @@ impl<W: Write> PatientTerminal<W> {
         self.at_start = false;
         self.is_more = false;
         let encoder = encoded?;
-        self.write(text.as_str())?;
-        self.encoder = encoder;
+        self.output.write(text.as_str())?;
+        self.output.take(changes, encoder);
         self.ahead = Ahead::new(size, next);
         self.at_start = ends_at_start(changes);
         self.is_more = was_more;
-        self.batches = self.batches.with_batch(changes);
         Ok(())
     }
 
@@ -224,22 +186,19 @@ impl<W: Write> PatientTerminal<W> {
     fn take(&mut self, changes: &[Change]) -> Result<(), TerminalFault>
         ensures ok { OnOk result (Renders (batch_view changes.now) (patient_state self.old)
             (patient_state self.new)) }
-        ensures err { OnErr result (patient_state self.new ≡ patient_state self.old) }
         ensures sent { OnOk result (IsTakenPatiently W.contents (batch_view changes.now)
             self.old self.new) }
         ensures more { OnOk result (self.new.is_more ≡ self.old.is_more) }
-        ensures known { OnErr result (self.new.encoder ≡ self.old.encoder) }
-        ensures lost { OnErr result ((self.new.ahead ≡ settled_at self.old.ahead.size None)
-            × (self.new.at_start ≡ false)) }
-        ensures last { OnErr result (self.new.is_more ≡ false) }
-        ensures unsent { IfErr result (λ fault. fault ≡ Memory → self.new.writer
-            ≡ self.old.writer) }
+        ensures err { OnErr result (self.new ≡ lost_at self.new.output.writer self.old) }
+        ensures unsent { IfErr result (λ fault. fault ≡ Memory → self.new.output.writer
+            ≡ self.old.output.writer) }
     {
-        let at_start = is_at_start(self.at_start, self.encoder, self.ahead.size().cols);
+        let encoder = self.output.encoder;
+        let at_start = is_at_start(self.at_start, encoder, self.ahead.size().cols);
         let (next, is_joined) = self.ahead.known_after(self.alloc, at_start, changes);
         if is_joined && self.is_more {
             self.ahead.keep(changes, next);
-            self.batches = self.batches.with_batch(changes);
+            self.output.take(changes, encoder);
             return Ok(());
         }
         self.put(changes, next, is_joined)
@@ -282,16 +241,11 @@ impl<W: Write> Terminal for PatientTerminal<W> {
         ensures took { OnOk result (FollowsPatiently W.contents self.old self.new
             (Took (batch_view changes.now))) }
         ensures refused { OnErr result (FollowsPatiently W.contents self.old self.new Refused) }
-        ensures unsent { IfErr result (λ fault. fault ≡ Memory → self.new.writer
-            ≡ self.old.writer) }
+        ensures unsent { IfErr result (λ fault. fault ≡ Memory → self.new.output.writer
+            ≡ self.old.output.writer) }
     {
-        match self.take(changes) {
-            Ok(()) => Ok(()),
-            Err(fault) => {
-                self.failures = self.failures.saturating_add(1);
-                Err(fault)
-            }
-        }
+        let taken = self.take(changes);
+        self.output.counted(taken)
     }
 
     /// Flushes the writer, to which it adds no byte. If something is kept back it does nothing, and is not refused:
@@ -299,19 +253,17 @@ impl<W: Write> Terminal for PatientTerminal<W> {
     fn flush(&mut self) -> Result<(), TerminalFault>
         ensures ok { OnOk result (Flushes (patient_state self.old) (patient_state self.new)) }
         ensures err { OnErr result (Fails (patient_state self.old) (patient_state self.new)) }
-        ensures known { self.new.encoder ≡ self.old.encoder }
-        ensures ahead { self.new.ahead ≡ self.old.ahead }
-        ensures more { self.new.is_more ≡ self.old.is_more }
-        ensures writer { Keeps (W.contents self.old.writer) (W.contents self.new.writer) }
+        ensures kept { self.new ≡ record self.old { output = self.new.output } }
+        ensures writer { Keeps (W.contents self.old.output.writer)
+            (W.contents self.new.output.writer) }
         ensures waits { (self.old.ahead.kept ≡ [] → ⊥) → (result ≡ Ok tt)
-            × (self.new.writer ≡ self.old.writer) }
+            × (self.new.output.writer ≡ self.old.output.writer) }
         ensures follows { FollowsPatiently W.contents self.old self.new Other }
     {
-        if self.ahead.is_settled() && self.writer.flush().is_err() {
-            self.failures = self.failures.saturating_add(1);
-            return Err(TerminalFault::Device);
+        if self.ahead.is_settled() {
+            return self.output.flush();
         }
-        self.flushed = Snapshot::of(&self.batches);
+        self.output.mark_flushed();
         Ok(())
     }
 }

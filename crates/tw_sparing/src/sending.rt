@@ -1,27 +1,16 @@
 //! What a batch is sent as, by what is shown before it and after it.
 
 ghost use Rattle.std.specs.Prelude.{◌≡◌, ◌≤◌, ◌++◌, IfOk, OnOk, string_bytes};
-ghost use Rattle.tw_ansi.specs.Encoding.{sent_batch, terse_batch};
+ghost use Rattle.tw_ansi.specs.Encoding.{terse_batch};
 ghost use Rattle.tw_surface.specs.ChangeView.{batch_view};
 ghost use Rattle.tw_sparing.specs.Shown.{changes_below, gone_rows, left_behind, sent_for, FitsTerminal, IsKnownAfter};
 
 use crate::shown::{Shown, send_below};
 use std::alloc::{AllocError, Global};
 use tw_ansi::Encoder;
+use tw_device::encode_batch;
 use tw_surface::Change;
 use tw_terminal::ScreenSize;
-
-/// Adds what a batch is sent as by its changes, and returns what is then known.
-fn encode(changes: &[Change], mut encoder: Encoder, out: &mut String) -> Result<Encoder, AllocError>
-    ensures bytes { OnOk result (string_bytes out.new
-        ≡ string_bytes out.old ++ (sent_batch (batch_view changes.now) encoder).bytes) }
-    ensures next { IfOk result (λ next. next ≡ (sent_batch (batch_view changes.now) encoder).next) }
-{
-    for change in changes {
-        encoder.encode(change, out)?;
-    }
-    Ok(encoder)
-}
 
 /// Returns how many of the first rows of an old screen have left a terminal of `rows` once it shows a new one: those
 /// that had left it before, and those that leave it now, unless the old cursor stands in one of these.
@@ -85,6 +74,6 @@ pub fn send_for(
 {
     match (old, new) {
         (Some(old), Some(new)) => send_known(alloc, size.rows, old, new, encoder, out),
-        _ => encode(changes, encoder, out),
+        _ => encode_batch(changes, encoder, out),
     }
 }

@@ -18,24 +18,18 @@ use crate::sending::send_for;
 use crate::shown::{Shown, ends_at_start, is_at_start, shown_after};
 use std::alloc::Global;
 use std::io::Write;
-use std::snapshot::Snapshot;
-use tw_ansi::Encoder;
-use tw_device::DeviceTerminal;
+use tw_device::{BatchWriter, DeviceTerminal};
 use tw_input::InputEvent;
 use tw_surface::Change;
-use tw_terminal::{BatchLog, ScreenSize, Terminal, TerminalFault};
+use tw_terminal::{ScreenSize, Terminal, TerminalFault};
 
 /// A terminal over a writer. It has no events, and the size that its owner gives it. If it is known what it shows, a
 /// batch is sent as what differs, and else by its changes.
 #[derive(Drop)]
 pub struct SparingTerminal<W> {
     alloc: Global,
-    writer: W,
-    encoder: Encoder,
     size: ScreenSize,
-    batches: BatchLog,
-    flushed: Snapshot<BatchLog>,
-    failures: usize,
+    output: BatchWriter<W>,
     shown: Option<Shown>,
     at_start: bool,
 }
@@ -44,20 +38,15 @@ impl<W: Write> SparingTerminal<W> {
     /// Creates a terminal of this size, whose cursor stands in column 0.
     pub fn new(alloc: Global, writer: W, size: ScreenSize) -> Self
         ensures state { sparing_state result ≡ fresh_terminal size [] }
-        ensures known { result.encoder ≡ first_known size.cols }
+        ensures known { result.output.encoder ≡ first_known size.cols }
         ensures shown { result.shown ≡ None }
-        ensures writer { result.writer ≡ writer }
+        ensures writer { result.output.writer ≡ writer }
     {
-        let batches = BatchLog::new();
-        let flushed = Snapshot::of(&batches);
+        let output = BatchWriter::new(writer, size.cols);
         SparingTerminal {
             alloc,
-            writer,
-            encoder: Encoder::new(size.cols),
             size,
-            batches,
-            flushed,
-            failures: 0,
+            output,
             shown: None,
             at_start: true,
         }
@@ -66,12 +55,13 @@ impl<W: Write> SparingTerminal<W> {
     /// Sets the size, which nothing else changes. What the terminal shows then is not known.
     pub fn set_screen_size(&mut self, size: ScreenSize)
         ensures state { sparing_state self.new ≡ record (sparing_state self.old) { size = size } }
-        ensures known { self.new.encoder ≡ record self.old.encoder { cols = size.cols } }
+        ensures known { self.new.output.encoder
+            ≡ record self.old.output.encoder { cols = size.cols } }
         ensures shown { self.new.shown ≡ None }
-        ensures writer { self.new.writer ≡ self.old.writer }
+        ensures writer { self.new.output.writer ≡ self.old.output.writer }
         ensures sized { DoesSparingly W.contents self.old self.new (Sized size) }
     {
-        self.encoder.set_cols(size.cols);
+        self.output.encoder.set_cols(size.cols);
         self.size = size;
         self.shown = None;
     }
@@ -81,62 +71,34 @@ impl<W: Write> SparingTerminal<W> {
     /// may have sent a beginning.
     pub fn send(&mut self, text: &str) -> Result<(), TerminalFault>
         ensures kept { sparing_state self.new ≡ sparing_state self.old }
-        ensures sent { let bytes = set_attributes default_attributes ++ text.now in
-            OnOk result (Appends (W.contents self.old.writer) (W.contents self.new.writer) bytes
-            × (self.new.encoder ≡ without_attributes self.old.encoder)) }
-        ensures refused { OnErr result ((self.new.encoder ≡ self.old.encoder)
+        ensures refused { OnErr result ((self.new.output.encoder ≡ self.old.output.encoder)
             × (self.new.at_start ≡ false)) }
         ensures shown { self.new.shown ≡ None }
         ensures said { OnOk result (DoesSparingly W.contents self.old self.new (Said text.now)) }
     {
         self.shown = None;
         self.at_start = false;
-        let mut encoder = self.encoder;
-        self.write(encoder.reset())?;
-        self.write(text)?;
-        self.encoder = encoder;
+        let encoder = self.output.encoder;
+        self.output.send(encoder, text)?;
         self.at_start = true;
         Ok(())
     }
 
-    /// Writes a text as it is.
-    fn write(&mut self, text: &str) -> Result<(), TerminalFault>
-        ensures kept { sparing_state self.new ≡ sparing_state self.old }
-        ensures known { self.new.encoder ≡ self.old.encoder }
-        ensures shown { self.new.shown ≡ self.old.shown }
-        ensures start { self.new.at_start ≡ self.old.at_start }
-        ensures sent { OnOk result (Appends (W.contents self.old.writer)
-            (W.contents self.new.writer) text.now) }
-        ensures failed { IfErr result (λ fault. fault ≡ Device) }
-    {
-        match self.writer.write_all(text.as_bytes()) {
-            Ok(()) => Ok(()),
-            Err(_) => Err(TerminalFault::Device),
-        }
-    }
-
-    /// Sends a batch. After a refusal it is not known what the terminal shows.
+    /// Sends a batch. After a refusal it is not known what the terminal shows, and else only what is written changes.
     fn put(&mut self, changes: &[Change]) -> Result<(), TerminalFault>
-        ensures sent { let sent = sent_for self.old.size.rows (batch_view changes.now)
-            self.old.shown self.new.shown self.old.encoder in
-            OnOk result (Appends (W.contents self.old.writer)
-            (W.contents self.new.writer) sent.bytes) }
-        ensures next { OnOk result (self.new.encoder
-            ≡ (sent_for self.old.size.rows (batch_view changes.now)
-            self.old.shown self.new.shown self.old.encoder).next) }
-        ensures shown { OnOk result (IsKnownAfter self.old.size.cols self.old.size.rows
-            (batch_view changes.now) self.old.shown self.new.shown) }
-        ensures start { OnOk result (IsFromStart self.old.encoder.x (batch_view changes.now)
-            self.old.shown self.new.shown) }
         ensures ok { OnOk result (Renders (batch_view changes.now) (sparing_state self.old)
             (sparing_state self.new)) }
-        ensures err { OnErr result (sparing_state self.new ≡ sparing_state self.old) }
-        ensures known { OnErr result (self.new.encoder ≡ self.old.encoder) }
-        ensures lost { OnErr result ((self.new.shown ≡ None) × (self.new.at_start ≡ false)) }
-        ensures unsent { IfErr result (λ fault. fault ≡ Memory → self.new.writer
-            ≡ self.old.writer) }
+        ensures took { OnOk result (DoesSparingly W.contents self.old self.new
+            (Called (Took (batch_view changes.now)))) }
+        ensures err { OnErr result (self.new ≡ record self.old {
+          output = record self.old.output { writer = self.new.output.writer };
+          shown = None;
+          at_start = false;
+        }) }
+        ensures unsent { IfErr result (λ fault. fault ≡ Memory → self.new.output.writer
+            ≡ self.old.output.writer) }
     {
-        let at_start = is_at_start(self.at_start, self.encoder, self.size.cols);
+        let at_start = is_at_start(self.at_start, self.output.encoder, self.size.cols);
         let next = shown_after(self.alloc, self.size, &self.shown, at_start, changes);
         let mut text = String::new(self.alloc);
         let encoded = send_for(
@@ -145,17 +107,16 @@ impl<W: Write> SparingTerminal<W> {
             changes,
             &self.shown,
             &next,
-            self.encoder,
+            self.output.encoder,
             &mut text,
         );
         self.shown = None;
         self.at_start = false;
         let encoder = encoded?;
-        self.write(text.as_str())?;
-        self.encoder = encoder;
+        self.output.write(text.as_str())?;
+        self.output.take(changes, encoder);
         self.shown = next;
         self.at_start = ends_at_start(changes);
-        self.batches = self.batches.with_batch(changes);
         Ok(())
     }
 }
@@ -191,50 +152,27 @@ impl<W: Write> Terminal for SparingTerminal<W> {
             (sparing_state self.new)) }
         ensures err { OnErr result (RenderFails (batch_view changes.now) (sparing_state self.old)
             (sparing_state self.new)) }
-        ensures sent { let sent = sent_for self.old.size.rows (batch_view changes.now)
-            self.old.shown self.new.shown self.old.encoder in
-            OnOk result (Appends (W.contents self.old.writer)
-            (W.contents self.new.writer) sent.bytes) }
-        ensures next { OnOk result (self.new.encoder
-            ≡ (sent_for self.old.size.rows (batch_view changes.now)
-            self.old.shown self.new.shown self.old.encoder).next) }
-        ensures shown { OnOk result (IsKnownAfter self.old.size.cols self.old.size.rows
-            (batch_view changes.now) self.old.shown self.new.shown) }
-        ensures start { OnOk result (IsFromStart self.old.encoder.x (batch_view changes.now)
-            self.old.shown self.new.shown) }
-        ensures known { OnErr result (self.new.encoder ≡ self.old.encoder) }
-        ensures lost { OnErr result (self.new.shown ≡ None) }
-        ensures unsent { IfErr result (λ fault. fault ≡ Memory → self.new.writer
-            ≡ self.old.writer) }
         ensures took { OnOk result (DoesSparingly W.contents self.old self.new
             (Called (Took (batch_view changes.now)))) }
         ensures refused { OnErr result (DoesSparingly W.contents self.old self.new
             (Called Refused)) }
+        ensures unsent { IfErr result (λ fault. fault ≡ Memory → self.new.output.writer
+            ≡ self.old.output.writer) }
     {
-        match self.put(changes) {
-            Ok(()) => Ok(()),
-            Err(fault) => {
-                self.failures = self.failures.saturating_add(1);
-                Err(fault)
-            }
-        }
+        let sent = self.put(changes);
+        self.output.counted(sent)
     }
 
     /// Flushes the writer, to which it adds no byte.
     fn flush(&mut self) -> Result<(), TerminalFault>
         ensures ok { OnOk result (Flushes (sparing_state self.old) (sparing_state self.new)) }
         ensures err { OnErr result (Fails (sparing_state self.old) (sparing_state self.new)) }
-        ensures known { self.new.encoder ≡ self.old.encoder }
-        ensures shown { self.new.shown ≡ self.old.shown }
-        ensures writer { Keeps (W.contents self.old.writer) (W.contents self.new.writer) }
+        ensures kept { self.new ≡ record self.old { output = self.new.output } }
+        ensures writer { Keeps (W.contents self.old.output.writer)
+            (W.contents self.new.output.writer) }
         ensures follows { DoesSparingly W.contents self.old self.new (Called Other) }
     {
-        if self.writer.flush().is_err() {
-            self.failures = self.failures.saturating_add(1);
-            return Err(TerminalFault::Device);
-        }
-        self.flushed = Snapshot::of(&self.batches);
-        Ok(())
+        self.output.flush()
     }
 }
 

@@ -1,8 +1,7 @@
-use Rattle.std.proofs.Common.{◌++◌, subst, ℕ, List, rules, arith}
-use Rattle.std.proofs.lemmas.Grind.{common_steps}
+use Rattle.std.proofs.Common.{◌++◌, subst, ℕ, List}
 use Rattle.std.specs.Io.KnownBytes.{Appends}
 use Rattle.tw_device.proofs.DeedLemmas.{appends_then}
-use Rattle.tw_device.proofs.terminal.AnsiTerminal.send.Goals as goal
+use Rattle.tw_device.proofs.batch_writer.BatchWriter.send.Goals as goal
 
 pub returns-clause-sent : goal.returns-clause-sent
 returns-clause-sent c d =
@@ -11,9 +10,3 @@ returns-clause-sent c d =
     let new = contents d.write-2.new.self.writer in
     subst (λ (reset : List ℕ). Appends old new (reset ++ d.args.text.now)) d.reset.ensures.text
     (appends_then old (contents d.write.new.self.writer) new d.reset.result.now d.args.text.now d.in_ok-write.ensures.sent d.in_ok-write-2.ensures.sent)
-
-pub returns-clause-said : goal.returns-clause-said
-returns-clause-said g c = grind (arith, common_steps)
-
-pub returns-clause-next : goal.returns-clause-next
-returns-clause-next g c = search rules
