@@ -1,7 +1,19 @@
 //! A terminal after ECMA-48 that runs: bytes come, and it holds what the small terminal of the definitions holds.
 //!
-//! `grid` has the cells, `rendition` what SGR selects, with `number`, the numbers that digits write, and `terminal`
-//! the terminal itself. `fault` is why it refuses.
+//! Use it in a test to see what a terminal shows that is sent some bytes.
+//!
+//! From `crates/editor_checks/src/device/shown.rt`:
+//!
+//! ```
+//! let terminal = EcmaTerminal::new(alloc, rows, cols, first_cell(trial.entry))?;
+//! ..
+//! self.terminal.receive_all(bytes)?;
+//! ..
+//! if self.terminal.cell(row, col) != table.cell(row, col) {
+//! ```
+//!
+//! `grid` has the cells, `rendition` what SGR selects, with `number`, the numbers that digits write, and `terminal` the
+//! terminal itself. `fault` is why it refuses.
 #![tactic(auto)]
 
 mod fault;

@@ -2,7 +2,16 @@
 //! cursor stand, and what screens show of them.
 //!
 //! A line may hold line feeds, and a host may show them: each ends a row, and a continuation prompt stands before the
-//! next one. No code of the editor is for rows, so each law is the contract of a function that does nothing.
+//! next one. No code of the editor is for rows. Use this crate to prove what a prompt shows: each law is the contract
+//! of a function that does nothing.
+//!
+//! From `crates/laws_prompt/proofs/WorkedRows.antt`:
+//!
+//! ```antt
+//! -- its rows; a line feed at the end begins one more
+//! three_rows : rows_of_text text ≡ first ∷ (103 ∷ 104 ∷ []) ∷ (105 ∷ 106 ∷ []) ∷ []
+//! three_rows = refl
+//! ```
 #![tactic(auto)]
 
 ghost use Rattle.std.specs.Prelude.{Bool};

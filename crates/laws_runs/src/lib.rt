@@ -1,10 +1,20 @@
-//! What screens show while the batches of a run of the editor are played on them: characters alone or under their
-//! attributes, on a screen without a bottom, one of some rows, which scrolls, one that was cleared, and one that cuts
-//! its rows to its columns. And what a terminal shows that is sent the bytes of a run, or of a reading: that of
-//! `tw_ansi`, of some rows and columns.
+//! What screens show while the batches of a run of the editor are played on them, and terminals that are sent its
+//! bytes.
 //!
-//! Each law is the contract of a function that does nothing. It holds for the run from every frame; that a call took
-//! the batches of its run is what `read_line` of `tw_lineedit` says.
+//! Characters alone or under their attributes, on a screen without a bottom, one of some rows, which scrolls, one that
+//! was cleared, and one that cuts its rows to its columns. Use this crate to prove what a reading shows: each law is
+//! the contract of a function that does nothing, and holds for the run from every frame; that a call took the batches
+//! of its run is what `read_line` of `tw_lineedit` says.
+//!
+//! From `crates/laws_runs/specs/PlainRuns.antt`:
+//!
+//! ```antt
+//! abbrev pub Paintings : Type 0
+//! Paintings = (f : Frame V) → RunIsFresh f
+//! ..
+//! abbrev pub Closings : Type 0
+//! Closings = (f : Frame V) → RunClosesBelow f
+//! ```
 #![tactic(auto)]
 
 ghost use Rattle.std.specs.Prelude.{List, Option, ℕ};

@@ -1,5 +1,16 @@
 //! Plays scripts on a line editor, and tells what it answers and shows.
 //!
+//! Use it to try an editor without a terminal, as `lineedit_run` does; docs/SCRIPTS.md has the language of scripts.
+//!
+//! From `crates/lineedit_run/src/main.rt`:
+//!
+//! ```
+//! let mut reader = rt.stdin();
+//! let mut writer = rt.stdout();
+//! match run(rt.alloc(), &mut reader, &mut writer) {
+//!     Ok(()) => ExitCode::SUCCESS,
+//! ```
+//!
 //! The language: `input` reads a script, `lines` cuts it, and `directive` says what a line asks for, with `number`,
 //! `keys` (their names), `escapes` (what a text stands for) and `events` (those of a line, and events by their names).
 //! `output` writes what is shown, and `fault` says why a run ends early. A run: `player` goes through the lines,

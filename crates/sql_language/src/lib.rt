@@ -1,5 +1,17 @@
 //! The language of SQL texts, as far as a prompt reads it: where tokens and statements end, and what completes a word.
 //!
+//! Use it to cut a script into statements, or to colour and complete one while it is typed.
+//!
+//! From `crates/example_sql/src/session.rt`:
+//!
+//! ```
+//! let Some(len) = statement_len(rest) else {
+//!     break;
+//! };
+//! let (statement, _) = rest.split_at(len);
+//! self.run_statement(connection, statement)?;
+//! ```
+//!
 //! `lexer` has what a byte of a text stands in, `tokens` the tokens of a text, `statements` where a statement ends,
 //! `words` words and keywords, `names` the names in a text and how one is written, `catalog` the names of a database,
 //! and `completion` what completes a word.

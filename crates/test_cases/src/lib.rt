@@ -1,4 +1,20 @@
-//! Cases of a line editor as text: what an editor does, and what comes of it. The test crates write their rows in them.
+//! Cases of a line editor as text: what an editor does, and what comes of it.
+//!
+//! Use it to write tests as rows of text, which one function plays (docs/GUIDE.md, "Testing").
+//!
+//! From `crates/test_device/src/wire.rt`:
+//!
+//! ```
+//! const TYPED: &str = r"
+//! echo hello\r => echo hello
+//! echo hello\u{1}\u{b}12\u{2}\u{2}3\r => 312
+//! ";
+//!
+//! #[test]
+//! fn keys_that_come_at_once_are_sent_as_one_line(rt: HostRuntime) -> Result<(), Fail> {
+//!     expect_rows(rt.alloc(), TYPED, read_at_once)
+//! }
+//! ```
 #![tactic(auto)]
 
 mod actions;

@@ -1,5 +1,16 @@
-//! A model screen whose cells hold characters under their attributes, and what a terminal is sent that shows one such
-//! screen, and is to show another one: the cells that differ.
+//! A model screen whose cells hold characters under their attributes, and what a terminal is sent for the cells that
+//! differ.
+//!
+//! Use it to bring a terminal from one screen to another by few bytes; `SparingTerminal` of `tw_sparing` does so.
+//!
+//! From `crates/tw_sparing/src/shown.rt`:
+//!
+//! ```
+//! let before = old.screen.without_rows(alloc, old_top)?;
+//! let after = new.screen.without_rows(alloc, top)?;
+//! ..
+//! send_changed(&before, reached, &after, rows, encoder, out)
+//! ```
 //!
 //! `screen` and `cell` have the model screen, each character in one column. `difference` finds where two screens
 //! differ, `redrawer` adds what is sent for it, and `hand` is where the cursor and the attributes are meanwhile. `laws`

@@ -1,8 +1,25 @@
-//! Completions as readline has them.
+//! Completions as readline has them: words of a list and file names, by context.
 //!
-//! `shared` has what all of several words begin with, and the candidate of what all candidates begin with.
-//! `word_lists` has words that complete what stands after a delimiter, `file_names` file names by listings of
-//! directories, and `completers` where in a line a completion is asked for, and what completes there.
+//! Use completers as the field `completers` of a `PromptHost`, or the functions in a host of your own.
+//!
+//! From `crates/prompt_demo/src/completers.rt`:
+//!
+//! ```
+//! let counted = WordList {
+//!     words: words(alloc, COUNTED)?,
+//!     delimiters: String::from_str(alloc, " ,")?,
+//!     ignores_case: true,
+//! };
+//! let completers = vec![in alloc;
+//!     arguments(alloc, "copy", Completer::FileNames)?,
+//! ..
+//!     arguments(alloc, "count", Completer::Words(counted))?,
+//! ]?;
+//! ```
+//!
+//! `completers` has where in a line a completion is asked for, and what completes there; `word_lists` words that
+//! complete what stands after a delimiter, and `file_names` file names by listings of directories. `shared` has what
+//! all of several words begin with, and the candidate of what all candidates begin with.
 #![tactic(auto)]
 
 mod completers;

@@ -1,8 +1,20 @@
-//! Histories beside those of `tw_line`: `FileHistory` is kept in a file, and `RecentHistory` keeps the newest lines,
-//! no line twice if it is unique.
+//! Histories that are kept in a file, or that keep only the newest lines.
 //!
-//! `file` has how a line stands in a file, and what reads such lines, `written` a history whose lines are written,
-//! and `laws` what follows from the definitions.
+//! Use `FileHistory` if lines are to be there the next time, and `RecentHistory` in memory: `unique` keeps no line
+//! twice.
+//!
+//! From `crates/example_sql/src/session.rt`:
+//!
+//! ```
+//! let statements = RecentHistory::unique(rt.alloc(), STATEMENTS_KEPT);
+//! match &options.history {
+//!     Some(path) => FileHistory::open(rt, path.as_str(), statements),
+//!     None => Ok(FileHistory::in_memory(rt.alloc(), statements)),
+//! }
+//! ```
+//!
+//! `recent` has the newest lines, `file` how a line stands in a file, and what reads such lines, `written` a history
+//! whose lines are written, and `laws` what follows from the definitions.
 #![tactic(auto)]
 
 mod file;

@@ -1,7 +1,26 @@
 //! What an application tells a line editor: actions, the key table, and the trait of hosts.
 //!
-//! `actions` has what the editor can be asked to do; `keys` the key table, which says what each key does; `host`
-//! the trait of hosts, with what they answer, and the host of the default answers. `laws` has what follows from the
+//! Implement `LineEditorHost` to say how a line is shown, what completes it and what a key does; `NopLineEditorHost`
+//! has the default answers. docs/OWN_PARTS.md leads through a host and its proof.
+//!
+//! From `crates/worked_host/src/host.rt`:
+//!
+//! ```
+//! impl LineEditorHost for CommandHost {
+//!     type Hist = BasicHistory;
+//! ..
+//!     fn complete(
+//!         &self,
+//!         alloc: Global,
+//!         line: &str,
+//!         cursor_position: usize,
+//!     ) -> Result<Vec<CompletionCandidate>, AllocError> {
+//!         complete_word(alloc, self.known.as_slice(), line, cursor_position)
+//!     }
+//! ```
+//!
+//! `actions` has what the editor can be asked to do; `keys` the key table, which says what each key does; `host` the
+//! trait of hosts, with what they answer, and the host of the default answers. `laws` has what follows from the
 //! definitions.
 #![tactic(auto)]
 

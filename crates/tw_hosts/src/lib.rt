@@ -1,5 +1,19 @@
-//! Ready parts of hosts for the line editor, each a function with a contract beside the rule that it answers by, and a
-//! host of tables that stands on them.
+//! Ready parts of hosts, and a host of tables that is made of them.
+//!
+//! Each part is a function whose contract is the rule that it answers by. Use them to write a host of your own, or
+//! `TableHost` if plain data will do.
+//!
+//! From `crates/worked_host/src/host.rt`:
+//!
+//! ```
+//! let (word, rest) = split_first_word(line);
+//! if !is_known(self.known.as_slice(), word) {
+//!     return plain_element(alloc, line);
+//! }
+//! let mut elements = styled(alloc, bold(), word)?;
+//! elements.push(OutputElement::text(alloc, rest)?)?;
+//! Ok(elements)
+//! ```
 //!
 //! `words` has the words of a line and what completes them; `tokens` how a line is cut into tokens and shown with
 //! keywords and quoted texts in their styles; `bindings` a host's own keys; `hints` what is shown under the line;

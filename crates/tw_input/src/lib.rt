@@ -1,7 +1,18 @@
 //! Keys, modifiers and the events of a terminal.
 //!
-//! `key` has the keys and the modifiers that are held with them; `event` what comes from a terminal. `laws` has
-//! what follows from their types.
+//! Use it to name a key of your own, or to tell an editor what was typed.
+//!
+//! From `crates/test_prompt/src/row_cells.rt`:
+//!
+//! ```
+//! let back = InputEvent::Key(KeyEvent {
+//!     key: KeyCode::LeftArrow,
+//!     modifiers: Modifiers::NONE,
+//! });
+//! ```
+//!
+//! `key` has the keys and the modifiers that are held with them; `event` what comes from a terminal. `laws` has what
+//! follows from their types.
 #![tactic(auto)]
 
 mod event;

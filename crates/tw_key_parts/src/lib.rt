@@ -1,4 +1,16 @@
-//! Parts with keys, which a prompt puts together.
+//! Parts with keys: readline's keys, a kill ring, undo, and more, put together by a prompt.
+//!
+//! Two parts as a pair are a part. Use them as the field `keys` of a `PromptHost`, and implement `KeyPart` for one of
+//! your own (docs/OWN_PARTS.md).
+//!
+//! From `crates/tw_prompt/src/keys.rt`:
+//!
+//! ```
+//! let words = (Keys(LetterWords), (Keys(ReadlineKeys), Keys(WordKeys)));
+//! let history = (LastWords::new(), PrefixSearch::new());
+//! let others = (words, (history, KillRing::new(alloc)));
+//! (UndoSteps::new(alloc), others)
+//! ```
 //!
 //! `part` has what a part is, `pair` two parts as one, and `plain_keys` parts that hold nothing; `readline_keys`,
 //! `letter_keys`, `word_keys`, `row_keys`, `ring`, `undo`, `last_words` and `prefix_search` the parts; `watch` whether

@@ -7,19 +7,24 @@
 //!
 //! # Example
 //!
+//! From `crates/script_player/src/new_editor.rt`:
+//!
 //! ```
-//! let events = vec![in alloc; InputEvent::Key(key), InputEvent::Key(enter)]?;
-//! let mut terminal = ScriptTerminal::new(alloc, ScreenSize { rows: 24, cols: 80 }, events);
-//! let mut host = NopLineEditorHost::new(alloc);
-//! let mut editor = LineEditor::new(alloc, &mut terminal)?;
-//! editor.set_prompt("$ ")?;
-//! match editor.read_line(&mut host)? {
-//!     Some(line) => println!(rt; "read {line:?}")?,
-//!     None => println!(rt; "cancelled")?,
-//! }
+//! pub fn read_line<T: Terminal, H: LineEditorHost>(
+//!     alloc: Global,
+//!     terminal: &mut T,
+//!     host: &mut H,
+//!     prompt: &str,
+//! ) -> Result<Option<String>, Error>
+//! ..
+//!     let mut editor = LineEditor::new(alloc, terminal)?;
+//!     editor.set_prompt(prompt)?;
+//!     editor.read_line(host)
 //! ```
 //!
-//! At a terminal of one's own, `read_typed_line` of `tw_device` does all of that from bytes.
+//! `ScriptTerminal` of `tw_terminal` is a terminal to try it with, and `NopLineEditorHost` the plain host. At a
+//! terminal of one's own, `read_typed_line` of `tw_device` does all of that from bytes, and `Prompt` of `tw_prompt` has
+//! the comforts.
 //!
 //! # Keys
 //!

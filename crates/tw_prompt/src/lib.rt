@@ -1,8 +1,31 @@
-//! What a prompt at a terminal in raw mode needs beside a host: what is typed, as events, and what the terminal is sent
-//! at first and in the end.
+//! A prompt at a terminal, in a program: lines are read with history, hints, completions and readline's keys, or
+//! plainly at a pipe.
 //!
-//! `TypedEvents::new` has the events of standard input, `usable` the size that a terminal tells, `BEGIN` and `END` what
-//! it is sent at first and in the end, and `read_listing` the names in a directory.
+//! Start here. Set the fields of `prompt.host` for more, and implement `Application` for completions and colours of
+//! your own (docs/GUIDE.md). `tools/at_terminal` starts the program.
+//!
+//! From `crates/first_prompt/src/main.rt`:
+//!
+//! ```
+//! let mut prompt = Prompt::open(rt, "$ ")?;
+//! for _ in 0..u64::MAX {
+//!     match prompt.read()? {
+//!         Answer::Line(line) => {
+//!             let told = format!(in alloc; "read {line:?}")?;
+//!             prompt.print(told.as_str())?;
+//!         }
+//!         Answer::Cancelled => {}
+//!         Answer::End(_) => break,
+//!     }
+//! }
+//! prompt.close()?;
+//! ```
+//!
+//! `prompt` has the prompt, `application` the functions of an application, with `words` and `brackets` for them, `keys`
+//! all parts with keys, and `listings` the names in a directory. At a terminal: `arguments` has what
+//! `tools/at_terminal` tells, `streams` the bytes, `typed` and `events` what is typed, with `joined`, characters that
+//! come at once, `sizes` the sizes that terminals tell, `marks` what one is sent at first and in the end, and
+//! `line_ends` the ends of lines.
 #![tactic(auto)]
 
 mod application;

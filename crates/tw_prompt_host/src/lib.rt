@@ -1,12 +1,19 @@
 //! A prompt as one host, with the comforts of readline as its fields.
 //!
-//! ```
-//! let mut host = PromptHost::new(alloc, "> ", 80)?;
-//! host.hints = Hints::dim();
-//! host.begin_line();
-//! ```
+//! Use `PromptHost::new` and set its fields; `with_host`, `with_history`, `with_keys` and `with_validator` replace
+//! fields by values of other types. docs/GUIDE.md has the table of fields.
 //!
-//! Use [`PromptHost::new`] and set its fields, or write the literal to choose other types for them.
+//! From `crates/prompt_demo/src/host.rt`:
+//!
+//! ```
+//! let mut host = PromptHost::new(alloc, prompt, 80)?
+//!     .with_host(TableHost::new(tables, BasicHistory::new(alloc)))
+//!     .with_history(RecentHistory::new(alloc, LINES_KEPT))
+//!     .with_keys((RowKeys::new(), all_keys(alloc)))
+//!     .with_validator(NestedLines { pairs });
+//! host.completers = completers;
+//! host.hints = Hints::dim();
+//! ```
 #![tactic(auto)]
 
 mod after_line;

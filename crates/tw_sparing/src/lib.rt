@@ -1,4 +1,15 @@
-//! A terminal over a writer that is sent what differs, and not all that is painted.
+//! Terminals over a writer that are sent what differs, and not all that is painted.
+//!
+//! Use `SparingTerminal` in the place of `AnsiTerminal` to send fewer bytes, and `PatientTerminal` to send none while
+//! more keys are at hand (docs/SPEED.md).
+//!
+//! From `crates/prompt_demo/src/main.rt`:
+//!
+//! ```
+//! let terminal = PatientTerminal::new(alloc, output, size);
+//! let events = PromptEvents::reading_ahead(alloc, input, rt);
+//! serve_at(rt, events, terminal, size)
+//! ```
 //!
 //! `shown` has what a terminal shows, as far as it is known, `sending` what a batch is sent as then, and `terminal` the
 //! terminal over a writer. `patient` has one that waits while more is at hand, and `ahead` what is drawn meanwhile.

@@ -1,11 +1,22 @@
-//! Changes of a screen, how they are measured, and a model screen that plays them.
+//! Changes of a screen, how they are measured, and model screens that play them.
 //!
-//! `change` has the changes and the positions that they move to; `color` and `cell` the attributes of a cell, and
-//! the columns that a text takes. `sequence` has a sequence of changes, measured as it grows: `measure` says where
-//! texts lead, by `clusters`, which cuts them after their first grapheme cluster, and `characters`, which knows
-//! plain ones; `size` says which numbers of rows and columns are refused. `screen` has the model screen without a
-//! bottom, and `scrolling_screen` the one with a last row. `laws` has what follows from the definitions of all of
-//! them.
+//! A `ChangeSequence` measures a painting as it grows, and a `Screen` or a `ScrollingScreen` shows what it looks like.
+//! Use this crate to make changes for a terminal, or to see in a test what they show.
+//!
+//! From `crates/test_device/src/shown.rt`:
+//!
+//! ```
+//! let mut screen = Screen::new(alloc, 4)?;
+//! for change in changes {
+//!     screen.apply(change)?;
+//! }
+//! ```
+//!
+//! `change` has the changes and the positions that they move to; `color` and `cell` the attributes of a cell, and the
+//! columns of a text. `sequence` has the `ChangeSequence`: `measure` says where texts lead, by `clusters`, which cuts
+//! them after their first grapheme cluster, and `characters`, which knows plain ones; `size` says which numbers of rows
+//! and columns are refused. `screen` has the model screen without a bottom, and `scrolling_screen` the one with a last
+//! row. `laws` has what follows from the definitions.
 #![tactic(auto)]
 
 mod blocks;

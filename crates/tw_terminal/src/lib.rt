@@ -1,5 +1,17 @@
 //! The terminal that a line editor works on, and one that plays a script.
 //!
+//! Implement `Terminal` to adapt a terminal of your own (docs/OWN_PARTS.md), and use `ScriptTerminal` in tests.
+//!
+//! From `crates/test_device/src/shown.rt`:
+//!
+//! ```
+//! let size = ScreenSize { rows: 24, cols: 80 };
+//! let mut terminal = ScriptTerminal::new(alloc, size, Vec::new(alloc));
+//! for at in 0..changes.len() {
+//!     terminal.render(&changes[at..at + 1])?;
+//! }
+//! ```
+//!
 //! `terminal` has the trait of terminals, the sizes of their screens and their faults; `log` lists that only contracts
 //! read, and `batch_log` the batches that a terminal took; `script` the terminal that plays a script of events, keeps
 //! what is rendered and fails at a named call. `laws` says that sizes and faults are compared by their values.
