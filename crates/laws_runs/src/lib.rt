@@ -1,7 +1,7 @@
 //! What screens show while the batches of a run of the editor are played on them, and terminals that are sent its
 //! bytes.
 //!
-//! Characters alone or under their attributes, on a screen without a bottom, one of some rows, which scrolls, one that
+//! Characters, also under their attributes, on a screen without a bottom, one of some rows, which scrolls, one that
 //! was cleared, and one that cuts its rows to its columns. Use this crate to prove what a reading shows: each law is
 //! the contract of a function that does nothing, and holds for the run from every frame; that a call took the batches
 //! of its run is what `read_line` of `tw_lineedit` says.

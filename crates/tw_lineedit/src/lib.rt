@@ -23,8 +23,8 @@
 //! ```
 //!
 //! `ScriptTerminal` of `tw_terminal` is a terminal to try it with, and `NopLineEditorHost` the plain host. At a
-//! terminal of one's own, `read_typed_line` of `tw_device` does all of that from bytes, and `Prompt` of `tw_prompt` has
-//! the comforts.
+//! real terminal, `read_typed_line` of `tw_device` does all of that from bytes, and `Prompt` of `tw_prompt` has the
+//! comforts.
 //!
 //! # Keys
 //!
