@@ -7,10 +7,7 @@
 //! ```
 //! const TYPED: &str = r"
 //! echo hello\r => echo hello
-//! echo hello\u{1}\u{b}12\u{2}\u{2}3\r => 312
-//! ";
-//!
-//! #[test]
+//! ..
 //! fn keys_that_come_at_once_are_sent_as_one_line(rt: HostRuntime) -> Result<(), Fail> {
 //!     expect_rows(rt.alloc(), TYPED, read_at_once)
 //! }
