@@ -1,5 +1,5 @@
 -- What a terminal is told before calls, put together.
-use Rattle.std.proofs.Common.{◌≡◌, ◌⊎◌, Bool, true, false, List, [], ◌∷◌, Result, Ok, Err, OnOk, inl, inr, refl, sym, ap, ◌∙◌, subst}
+use Rattle.std.proofs.Common.{◌≡◌, ◌⊎◌, Bool, true, false, List, [], ◌∷◌, Result, Ok, Err, IfOk, inl, inr, refl, sym, ap, ◌∙◌, subst}
 use Rattle.tw_surface.specs.ChangeView.{Batch}
 use Rattle.tw_input.specs.EventView.{EventView}
 use Rattle.tw_terminal.specs.TerminalState.{TerminalState}
@@ -16,10 +16,10 @@ use Rattle.tw_device.specs.Live.{ComesBy, Opens}
 use Rattle.tw_device.proofs.DeedLemmas.{used_leads}
 use Rattle.tw_device.proofs.LedLemmas.{comes-taken, calls_then, one_call}
 
--- what holds at all holds on success
-pub holds_on_ok : {A E : Type 0} (P : Type 0) (result : Result A E) → P → OnOk result P
-holds_on_ok P (Ok value) p = p
-holds_on_ok P (Err e) p = tt
+-- what holds at all is added to what holds on success
+pub with_on_ok : {A E : Type 0} (Q : A → Type 0) (P : Type 0) (result : Result A E) → IfOk result Q → P → IfOk result (λ value. Q value × P)
+with_on_ok Q P (Ok value) q p = (q, p)
+with_on_ok Q P (Err e) q p = tt
 
 module _ {T : Type 0} (state : T → TerminalState) (Follows : T → T → Call → Type 0) (may_keep : T → Bool) (Leads : T → T → Deed → Type 0) where
   -- calls once it is told whether more is at hand

@@ -4,8 +4,9 @@ use Rattle.tw_surface.specs.ChangeView.{Batch}
 use Rattle.tw_input.specs.EventView.{EventView}
 use Rattle.tw_terminal.specs.TerminalState.{TerminalState}
 use Rattle.tw_terminal.specs.Uses.{Call, Other, IsUsed}
-use Rattle.tw_device.specs.Deeds.{Deed, Called}
-use Rattle.tw_device.specs.Led.{IsLedByCalls, IsLedAlong, IsSizedBy}
+use Rattle.tw_device.specs.Calls.{IsCalled}
+use Rattle.tw_device.specs.Deeds.{Deed, Called, IsLedBy, IsLedAsTold}
+use Rattle.tw_device.specs.Led.{IsLedByCalls, IsLedByEvent, IsLedAlong, IsSizedBy, IsToldAlong}
 
 module _ {T : Type 0} (state : T → TerminalState) (Follows : T → T → Call → Type 0) (may_keep : T → Bool) (Leads : T → T → Deed → Type 0) where
   -- Something that renders nothing leads to where it may keep nothing back, and from there calls of `Terminal` lead to
@@ -22,6 +23,13 @@ module _ {T : Type 0} (state : T → TerminalState) (Follows : T → T → Call 
   abbrev pub IsFedWith : Bool → List EventView → T → T → Type 0
   IsFedWith more [] old new = new ≡ old
   IsFedWith more (event ∷ events) old new = (sized : T) × (fed : T) × IsSizedBy Leads event old sized × IsCalledWith more sized fed × IsFedWith more events fed new
+
+  -- An event is fed. So the terminal is led by it, its size is the one that it tells, and it learns whether more is at
+  -- hand.
+  pub record FeedsEvent (more : Bool) (event : EventView) (old new : T) : Type 0 where
+    pub led : IsLedBy Leads (event ∷ []) old new
+    pub sized : IsLedByEvent Leads event old new
+    pub fed : IsFedWith more (event ∷ []) old new
 
   -- It is led along a run to where its batches are all that the run takes, and from there on it may keep nothing back.
   abbrev pub IsClosedAlong : (List EventView → List Batch) → List EventView → T → T → Type 0
@@ -50,3 +58,11 @@ module _ {T : Type 0} (state : T → TerminalState) (Follows : T → T → Call 
     -- so it is, or nothing was done
     abbrev pub IsUntouchedOrAsked : S → S → T → T → Type 0
     IsUntouchedOrAsked old_source new_source old new = ((new_source ≡ old_source) × (new ≡ old)) ⊎ IsAskedInTime old_source new_source old new
+
+    -- Events are taken: the source is called only to tell them, and the terminal is led by them, beside the run over
+    -- those before each, and learns in time whether more is at hand.
+    pub record TakesEvents (told : S → List EventView) (taken : List EventView → List Batch) (old_source new_source : S) (old new : T) : Type 0 where
+      pub called : IsCalled told Tells old_source new_source
+      pub led : IsLedAsTold Leads (told old_source) (told new_source) old new
+      pub along : IsToldAlong state Leads taken (told old_source) (told new_source) old new
+      pub asked : IsUsed Asks (old_source, old) (new_source, new)

@@ -10,10 +10,10 @@ ghost use Rattle.tw_lineedit.specs.Feeding.{status_if, Begins, FailsToBegin, Fai
 ghost use Rattle.tw_lineedit.specs.Outcomes.{answer_at, is_open, outcome_of};
 ghost use Rattle.tw_lineedit.specs.Reading.{start, Reads};
 ghost use Rattle.tw_lineedit.specs.Run.{ending};
-ghost use Rattle.tw_device.specs.Asked.{Asks, IsCalledAtOnce, IsCalledWith, IsClosedAsTold, IsFedWith, IsUntouchedOrAsked};
+ghost use Rattle.tw_device.specs.Asked.{FeedsEvent, IsCalledAtOnce, IsCalledWith, IsClosedAsTold, IsUntouchedOrAsked, TakesEvents};
 ghost use Rattle.tw_device.specs.Calls.{IsCalled};
-ghost use Rattle.tw_device.specs.Deeds.{Called, IsLedAsTold, IsLedBy};
-ghost use Rattle.tw_device.specs.Led.{taken_on, taken_over, IsLedByCalls, IsLedByEvent, IsSizedBy, IsToldAlong};
+ghost use Rattle.tw_device.specs.Deeds.{Called, IsLedAsTold};
+ghost use Rattle.tw_device.specs.Led.{taken_on, taken_over, IsLedByCalls, IsSizedBy, IsToldAlong};
 ghost use Rattle.tw_device.specs.Live.{fresh_frame, WaitsAfter, ComesBy, FailsFrom, FailsBy, IsToldAnswer, IsRead, IsRefusedTold, FailsToReadTold, StopsFeeding, answer_from};
 
 use crate::device::DeviceTerminal;
@@ -114,17 +114,12 @@ fn feed<T: DeviceTerminal, H: LineEditorHost>(
     ensures ok { let before = frame T.state H.value editor.old host.old in
         let after = frame T.state H.value editor.new host.new in
         OnOk result (WaitsAfter H.rules H.OVERRIDES (event_view event.now ∷ []) before after) }
-    ensures begun { OnOk result (editor.new.session.state.mode ≢ Inactive) }
-    ensures status { IfOk result (λ status. status
-        ≡ status_if (is_open editor.new.session.state.mode)) }
+    ensures status { IfOk result (λ status. (editor.new.session.state.mode ≢ Inactive)
+        × (status ≡ status_if (is_open editor.new.session.state.mode))) }
     ensures err { let before = frame T.state H.value editor.old host.old in
         let after = frame T.state H.value editor.new host.new in
         IfErr result (FailsFrom H.rules H.OVERRIDES (event_view event.now ∷ []) before after) }
-    ensures led { IsLedBy T.does (event_view event.now ∷ [])
-        editor.old.terminal.now editor.new.terminal.now }
-    ensures sized { IsLedByEvent T.does (event_view event.now)
-        editor.old.terminal.now editor.new.terminal.now }
-    ensures fed { IsFedWith T.state T.follows T.may_keep T.does is_more (event_view event.now ∷ [])
+    ensures fed { FeedsEvent T.state T.follows T.may_keep T.does is_more (event_view event.now)
         editor.old.terminal.now editor.new.terminal.now }
 {
     prepare(editor.terminal(), event, is_more);
@@ -144,22 +139,18 @@ fn take_events<S: EventSource, T: DeviceTerminal, H: LineEditorHost>(
         let after = frame T.state H.value editor.new host.new in
         OnOk result (ComesBy H.rules H.OVERRIDES (S.told source.old) (S.told source.new)
         before after) }
-    ensures begun { OnOk result (editor.new.session.state.mode ≢ Inactive) }
     ensures stopped { let is_open_after = is_open editor.new.session.state.mode in
-        IfOk result (λ stop. StopsFeeding stop is_open_after (S.state source.new)
+        IfOk result (λ stop. (editor.new.session.state.mode ≢ Inactive)
+        × StopsFeeding stop is_open_after (S.state source.new)
         (S.told source.old) (S.told source.new)) }
     ensures err { let before = frame T.state H.value editor.old host.old in
         let after = frame T.state H.value editor.new host.new in
         IfErr result (FailsBy H.rules H.OVERRIDES (S.told source.old) (S.told source.new)
         before after) }
-    ensures called { IsCalled S.told S.follows source.old source.new }
-    ensures led { IsLedAsTold T.does (S.told source.old) (S.told source.new)
+    ensures taken { let before = frame T.state H.value editor.old host.old in
+        TakesEvents T.state T.follows T.may_keep T.does S.at_hand S.follows S.told
+        (taken_on H.rules before) source.old source.new
         editor.old.terminal.now editor.new.terminal.now }
-    ensures along { let before = frame T.state H.value editor.old host.old in
-        IsToldAlong T.state T.does (taken_on H.rules before) (S.told source.old) (S.told source.new)
-        editor.old.terminal.now editor.new.terminal.now }
-    ensures asked { IsUsed (Asks T.state T.follows T.may_keep T.does S.at_hand S.follows)
-        (source.old, editor.old.terminal.now) (source.new, editor.new.terminal.now) }
 {
     for turn in 0..u64::MAX {
         let _told = turn;
@@ -216,9 +207,10 @@ fn read_events<S: EventSource, T: DeviceTerminal, H: LineEditorHost>(
     prompt: &str,
 ) -> Result<Answer, Error>
     ensures ok { let begun = fresh_frame prompt.now (H.value host.old) (T.state terminal.old) in
-        IfOk result (IsRead H.rules (S.told source.old) (S.told source.new)
-        (S.state source.new) begun
-        (H.value host.new) (T.state terminal.new)) }
+        IfOk result (λ answer. IsRead H.rules (S.told source.old) (S.told source.new)
+        (S.state source.new) begun (H.value host.new) (T.state terminal.new) answer
+        × IsClosedAsTold T.state T.follows T.may_keep T.does (taken_over H.rules begun)
+        (S.told source.old) (S.told source.new) terminal.old terminal.new) }
     ensures err { let begun = fresh_frame prompt.now (H.value host.old) (T.state terminal.old) in
         IfErr result (FailsToReadTold H.rules H.OVERRIDES (S.told source.old) (S.told source.new)
         (S.state source.new) begun
@@ -232,9 +224,6 @@ fn read_events<S: EventSource, T: DeviceTerminal, H: LineEditorHost>(
         terminal.old terminal.new }
     ensures asked { IsUntouchedOrAsked T.state T.follows T.may_keep T.does S.at_hand S.follows
         source.old source.new terminal.old terminal.new }
-    ensures closed { let begun = fresh_frame prompt.now (H.value host.old) (T.state terminal.old) in
-        OnOk result (IsClosedAsTold T.state T.follows T.may_keep T.does (taken_over H.rules begun)
-        (S.told source.old) (S.told source.new) terminal.old terminal.new) }
 {
     let mut editor = LineEditor::new(alloc, terminal)?;
     editor.set_prompt(prompt)?;

@@ -5,7 +5,6 @@ ghost use Rattle.std.specs.Borrow.{sem};
 ghost use Rattle.std.specs.Str.{IsCharBoundary};
 ghost use Rattle.tw_input.specs.EventView.{event_view};
 ghost use Rattle.tw_terminal.specs.TerminalState.{Takes};
-ghost use Rattle.tw_terminal.specs.Uses.{IsUsed};
 ghost use Rattle.tw_host.specs.ActionView.{action_view, Repaint};
 ghost use Rattle.tw_line.specs.Cut.{cut_at};
 ghost use Rattle.tw_host.specs.KeyTable.{action_of};
@@ -108,8 +107,7 @@ impl<'term, T: Terminal> LineEditor<'term, T> {
 
     /// Paints the session over its painting before.
     fn paint<H: LineEditorHost>(&mut self, host: &H) -> Result<(), Error>
-        ensures same_reference { self.new.terminal.ghost_name ≡ self.old.terminal.ghost_name }
-        ensures used { IsUsed T.follows self.old.terminal.now self.new.terminal.now }
+        ensures terminal { KeepsTerminal T.follows self.old.terminal self.new.terminal }
         ensures ok { OnOk result (across T.state H.value (Paints H.rules)
             self.old host.now self.new host.now) }
         ensures err { IfErr result (across T.state H.value (FailsToPaint H.rules)
@@ -154,8 +152,7 @@ impl<'term, T: Terminal> LineEditor<'term, T> {
 
     /// Applies what the host makes of the event, or else what the key table does.
     fn handle<H: LineEditorHost>(&mut self, host: &mut H, event: &InputEvent) -> Result<(), Error>
-        ensures same_reference { self.new.terminal.ghost_name ≡ self.old.terminal.ghost_name }
-        ensures used { IsUsed T.follows self.old.terminal.now self.new.terminal.now }
+        ensures terminal { KeepsTerminal T.follows self.old.terminal self.new.terminal }
         ensures ok { OnOk result (across T.state H.value (Handles H.rules (event_view event.now))
             self.old host.old self.new host.new) }
         ensures err { IfErr result (across T.state H.value
@@ -174,8 +171,7 @@ impl<'term, T: Terminal> LineEditor<'term, T> {
         host: &mut H,
         event: &InputEvent,
     ) -> Result<(), Error>
-        ensures same_reference { self.new.terminal.ghost_name ≡ self.old.terminal.ghost_name }
-        ensures used { IsUsed T.follows self.old.terminal.now self.new.terminal.now }
+        ensures terminal { KeepsTerminal T.follows self.old.terminal self.new.terminal }
         ensures host { host.new ≡ host.old }
         ensures ok { OnOk result (across T.state H.value
             (Applies H.rules (action_of (event_view event.now)))
@@ -193,8 +189,7 @@ impl<'term, T: Terminal> LineEditor<'term, T> {
     /// Handles the event, and paints.
     #[tactic(auto, using(crate::proofs::FeedingLemmas::advances_if, crate::proofs::FeedingLemmas::stays_if))]
     fn advance<H: LineEditorHost>(&mut self, host: &mut H, event: &InputEvent) -> Result<(), Error>
-        ensures same_reference { self.new.terminal.ghost_name ≡ self.old.terminal.ghost_name }
-        ensures used { IsUsed T.follows self.old.terminal.now self.new.terminal.now }
+        ensures terminal { KeepsTerminal T.follows self.old.terminal self.new.terminal }
         ensures ok { OnOk result (across T.state H.value
             (HandlesAndPaints H.rules (event_view event.now)) self.old host.old self.new host.new) }
         ensures err { IfErr result (across T.state H.value
@@ -207,8 +202,7 @@ impl<'term, T: Terminal> LineEditor<'term, T> {
 
     /// Takes an event, handles it, and paints. Returns false if the run ends.
     fn turn<H: LineEditorHost>(&mut self, host: &mut H) -> Result<bool, Error>
-        ensures same_reference { self.new.terminal.ghost_name ≡ self.old.terminal.ghost_name }
-        ensures used { IsUsed T.follows self.old.terminal.now self.new.terminal.now }
+        ensures terminal { KeepsTerminal T.follows self.old.terminal self.new.terminal }
         ensures ok { IfOk result (λ more. MatchBool more
             (Continues H.rules H.OVERRIDES (frame T.state H.value self.old host.old)
             (frame T.state H.value self.new host.new))
@@ -233,8 +227,7 @@ impl<'term, T: Terminal> LineEditor<'term, T> {
     /// Takes events up to the end of the run, and returns a copy of the line.
     #[tactic(auto, using(crate::proofs::TurnLemmas::ended_later))]
     fn run_to_end<H: LineEditorHost>(&mut self, host: &mut H) -> Result<Option<String>, Error>
-        ensures same_reference { self.new.terminal.ghost_name ≡ self.old.terminal.ghost_name }
-        ensures used { IsUsed T.follows self.old.terminal.now self.new.terminal.now }
+        ensures terminal { KeepsTerminal T.follows self.old.terminal self.new.terminal }
         ensures ok { IfOk result (λ it. across T.state H.value (IsAnsweredOn H.rules)
             self.old host.old self.new host.new (outcome_of (Ok it))) }
         ensures err { IfErr result (across T.state H.value
@@ -247,8 +240,7 @@ impl<'term, T: Terminal> LineEditor<'term, T> {
 
     /// Ends the run: the mode is Inactive, nothing counts as painted, and the closing batch is rendered and flushed.
     fn close(&mut self) -> Result<(), Error>
-        ensures same_reference { self.new.terminal.ghost_name ≡ self.old.terminal.ghost_name }
-        ensures used { IsUsed T.follows self.old.terminal.now self.new.terminal.now }
+        ensures terminal { KeepsTerminal T.follows self.old.terminal self.new.terminal }
         ensures ok { OnOk result (Closes (own_frame T.state self.old)
             (own_frame T.state self.new)) }
         ensures err { IfErr result (FailsToClose (own_frame T.state self.old)
@@ -285,8 +277,7 @@ impl<'term, T: Terminal> LineEditor<'term, T> {
         host: &H,
         initial: Option<&str>,
     ) -> Result<(), Error>
-        ensures same_reference { self.new.terminal.ghost_name ≡ self.old.terminal.ghost_name }
-        ensures used { IsUsed T.follows self.old.terminal.now self.new.terminal.now }
+        ensures terminal { KeepsTerminal T.follows self.old.terminal self.new.terminal }
         ensures ok { OnOk result (across T.state H.value
             (BeginsWith H.rules H.OVERRIDES (initial_text initial.entry))
             self.old host.now self.new host.now) }
@@ -306,8 +297,7 @@ impl<'term, T: Terminal> LineEditor<'term, T> {
         host: &mut H,
         initial: Option<&str>,
     ) -> Result<Option<String>, Error>
-        ensures same_reference { self.new.terminal.ghost_name ≡ self.old.terminal.ghost_name }
-        ensures used { IsUsed T.follows self.old.terminal.now self.new.terminal.now }
+        ensures terminal { KeepsTerminal T.follows self.old.terminal self.new.terminal }
         ensures ok { IfOk result (λ it. across T.state H.value
             (IsAnsweredWith H.rules (initial_text initial.entry))
             self.old host.old self.new host.new (outcome_of (Ok it))) }
@@ -321,8 +311,7 @@ impl<'term, T: Terminal> LineEditor<'term, T> {
 
     /// Closes after a refusal, and returns it, or else why the closing is refused.
     fn give_up(&mut self, refusal: Error) -> Error
-        ensures same_reference { self.new.terminal.ghost_name ≡ self.old.terminal.ghost_name }
-        ensures used { IsUsed T.follows self.old.terminal.now self.new.terminal.now }
+        ensures terminal { KeepsTerminal T.follows self.old.terminal self.new.terminal }
         ensures gives_up { GivesUp refusal (own_frame T.state self.old)
             (own_frame T.state self.new) result }
     {
@@ -339,8 +328,7 @@ impl<'term, T: Terminal> LineEditor<'term, T> {
         host: &mut H,
         initial: Option<&str>,
     ) -> Result<Option<String>, Error>
-        ensures same_reference { self.new.terminal.ghost_name ≡ self.old.terminal.ghost_name }
-        ensures used { IsUsed T.follows self.old.terminal.now self.new.terminal.now }
+        ensures terminal { KeepsTerminal T.follows self.old.terminal self.new.terminal }
         ensures ok { IfOk result (λ it. across T.state H.value
             (ReadsWith H.rules (initial_text initial.entry)) self.old host.old self.new host.new
             (outcome_of (Ok it))) }

@@ -2,7 +2,6 @@
 
 ghost use Rattle.std.specs.Prelude.{◌≡◌, ◌++◌, Ok, IfOk, IfErr, OnOk, true, false};
 ghost use Rattle.tw_surface.specs.ChangeView.{batch_view};
-ghost use Rattle.tw_terminal.specs.Uses.{IsUsed};
 ghost use Rattle.tw_session.specs.Outcomes.{is_open};
 ghost use Rattle.tw_lineedit.specs.Above.{text_above, FailsToPrint, PrintsAbove, ShowsAbove};
 ghost use Rattle.tw_lineedit.specs.Feeding.{status_if};
@@ -75,8 +74,7 @@ impl<'term, T: Terminal> LineEditor<'term, T> {
 
     /// Shows a text in the place of the last painting, and paints the session below it.
     fn paint_below<H: LineEditorHost>(&mut self, host: &H, text: &str) -> Result<(), Error>
-        ensures same_reference { self.new.terminal.ghost_name ≡ self.old.terminal.ghost_name }
-        ensures used { IsUsed T.follows self.old.terminal.now self.new.terminal.now }
+        ensures terminal { KeepsTerminal T.follows self.old.terminal self.new.terminal }
         ensures ok { OnOk result (across T.state H.value (PrintsAbove H.rules text.now)
             self.old host.now self.new host.now) }
         ensures shows { OnOk result (across T.state H.value (ShowsAbove H.rules text.now)

@@ -7,7 +7,6 @@ ghost use Rattle.tw_lineedit.specs.Lines.{BeginsWith, ShowsFirstWith, FinishesLi
 ghost use Rattle.tw_lineedit.specs.Lent.{KeepsTerminal, LendsTerminal};
 ghost use Rattle.tw_input.specs.EventView.{event_view};
 ghost use Rattle.tw_terminal.specs.TerminalState.{size_after};
-ghost use Rattle.tw_terminal.specs.Uses.{IsUsed};
 ghost use Rattle.tw_session.specs.EditState.{Inactive};
 ghost use Rattle.tw_session.specs.Outcomes.{outcome_of, is_open};
 ghost use Rattle.tw_lineedit.specs.Feeding.{status_if, Begins, FailsToBegin, IsFed, FailsToFeed, FailsToFinish};
@@ -128,8 +127,7 @@ impl<'term, T: Terminal> LineEditor<'term, T> {
     /// Answers the line, and closes, whether it was refused or not.
     #[tactic(auto, using(crate::proofs::ClosingLemmas::finish_closed, crate::proofs::ClosingLemmas::finish_given_up))]
     fn end_line(&mut self) -> Result<Option<String>, Error>
-        ensures same_reference { self.new.terminal.ghost_name ≡ self.old.terminal.ghost_name }
-        ensures used { IsUsed T.follows self.old.terminal.now self.new.terminal.now }
+        ensures terminal { KeepsTerminal T.follows self.old.terminal self.new.terminal }
         ensures ok { IfOk result (λ it. FinishesLine (own_frame T.state self.old)
             (own_frame T.state self.new) (outcome_of (Ok it))) }
         ensures err { IfErr result (FailsToFinish (own_frame T.state self.old)
@@ -167,8 +165,7 @@ impl<'term, T: Terminal> LineEditor<'term, T> {
     /// Begins a line and paints it, and closes where that is refused.
     #[tactic(auto, using(crate::proofs::ClosingLemmas::begun_given_up))]
     fn open<H: LineEditorHost>(&mut self, host: &H, initial: Option<&str>) -> Result<(), Error>
-        ensures same_reference { self.new.terminal.ghost_name ≡ self.old.terminal.ghost_name }
-        ensures used { IsUsed T.follows self.old.terminal.now self.new.terminal.now }
+        ensures terminal { KeepsTerminal T.follows self.old.terminal self.new.terminal }
         ensures ok { OnOk result (across T.state H.value
             (BeginsWith H.rules H.OVERRIDES (initial_text initial.entry))
             self.old host.now self.new host.now) }
@@ -188,8 +185,7 @@ impl<'term, T: Terminal> LineEditor<'term, T> {
         requires told { size_after (event_view event.now) (T.state self.old.terminal.now).size
             ≡ (T.state self.old.terminal.now).size }
         requires open { is_open self.old.session.state.mode ≡ true }
-        ensures same_reference { self.new.terminal.ghost_name ≡ self.old.terminal.ghost_name }
-        ensures used { IsUsed T.follows self.old.terminal.now self.new.terminal.now }
+        ensures terminal { KeepsTerminal T.follows self.old.terminal self.new.terminal }
         ensures ok { OnOk result (across T.state H.value
             (IsFed H.rules H.OVERRIDES (event_view event.now))
             self.old host.old self.new host.new) }

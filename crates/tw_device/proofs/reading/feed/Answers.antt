@@ -20,16 +20,19 @@ returns-clause-err g c =
     refused_if g.H.LineEditorHost.rules g.H.LineEditorHost.OVERRIDES _ c.feed.result (event_view c.args.event.now) f _ _ c.requires (g.met.T.DeviceTerminal.no_event c.args.editor.now.terminal.now)
     (resized_is g.H.LineEditorHost.rules g.H.LineEditorHost.OVERRIDES (event_view c.args.event.now) f (state c.prepare.new.terminal) (state c.terminal.result.now) c.prepare.ensures.state (ap state c.terminal.ensures.shows)) c.feed.ensures.err
 
-pub returns-clause-sized : goal.returns-clause-sized
-returns-clause-sized g c =
-    led_by_told g.T.Terminal.state g.T.Terminal.follows g.T.DeviceTerminal.may_keep g.T.DeviceTerminal.does g.met.T.DeviceTerminal.call_does (event_view c.args.event.now)
-    c.args.editor.now.terminal.now c.terminal.result.now c.prepare.new.terminal c.feed.new.self.terminal.now c.terminal.ensures.shows c.prepare.ensures.sized c.feed.ensures.terminal.1
-
 pub returns-clause-fed : goal.returns-clause-fed
 returns-clause-fed g c =
-    fed_with g.T.Terminal.state g.T.Terminal.follows g.T.DeviceTerminal.may_keep g.T.DeviceTerminal.does g.met.T.DeviceTerminal.call_does c.args.is_more (event_view c.args.event.now)
-    c.args.editor.now.terminal.now c.terminal.result.now c.prepare.new.terminal c.feed.new.self.terminal.now c.terminal.ensures.shows c.prepare.ensures.sized c.prepare.ensures.last c.feed.ensures.terminal.1
-
-pub returns-clause-led : goal.returns-clause-led
-returns-clause-led g c =
-    event_is_led g.T.Terminal.state g.T.DeviceTerminal.does (event_view c.args.event.now) c.args.editor.now.terminal.now c.feed.new.self.terminal.now (returns-clause-sized g c)
+    let state = g.T.Terminal.state in
+    let follows = g.T.Terminal.follows in
+    let may_keep = g.T.DeviceTerminal.may_keep in
+    let does = g.T.DeviceTerminal.does in
+    let event = event_view c.args.event.now in
+    let old = c.args.editor.now.terminal.now in
+    let new = c.feed.new.self.terminal.now in
+    let sized = led_by_told state follows may_keep does g.met.T.DeviceTerminal.call_does event old c.terminal.result.now c.prepare.new.terminal new c.terminal.ensures.shows c.prepare.ensures.sized c.feed.ensures.terminal.1 in
+    record {
+      led = event_is_led state does event old new sized;
+      sized = sized;
+      fed = fed_with state follows may_keep does g.met.T.DeviceTerminal.call_does c.args.is_more event old c.terminal.result.now c.prepare.new.terminal new
+          c.terminal.ensures.shows c.prepare.ensures.sized c.prepare.ensures.last c.feed.ensures.terminal.1;
+    }

@@ -22,31 +22,7 @@ returns-in_err-feed-in-Ok-Some-clause-err g c =
     _ c.in_err-feed-in-Ok-Some.field-0.0 c.loop-turn.invariant.comes (rw c.in-Ok-Some.field-0-is at c.in-Ok-Some.ensures.ok) c.in_err-feed-in-Ok-Some.ensures.err)
 
 pub returns-clause-stopped : goal.returns-clause-stopped
-returns-clause-stopped g c = (c.loop-turn.invariant.still_open, omega (arith, c.loop-turn.invariant.count, c.loop-turn.auto.turn-end, c.loop-turn-test.false))
-
-pub returns-in_err-feed-in-Ok-Some-clause-called : goal.returns-in_err-feed-in-Ok-Some-clause-called
-returns-in_err-feed-in-Ok-Some-clause-called g c =
-    let source = g.S.EventSource in
-    called_more source.told source.follows c.args.source.now c.loop-turn.source c.next_event.new.self (answer_events c.next_event.result) c.loop-turn.invariant.called c.next_event.ensures.follows
-    (told_answer _ c.next_event.result (source.told c.loop-turn.source) (source.told c.next_event.new.self) c.next_event.ensures.ok c.next_event.ensures.told)
-
-pub returns-in-Ended-clause-called : goal.returns-in-Ended-clause-called
-returns-in-Ended-clause-called g c =
-    let source = g.S.EventSource in
-    called_more source.told source.follows c.args.source.now c.loop-turn.source c.next_event.new.self (answer_events c.next_event.result) c.loop-turn.invariant.called c.next_event.ensures.follows
-    (told_answer _ c.next_event.result (source.told c.loop-turn.source) (source.told c.next_event.new.self) c.next_event.ensures.ok c.next_event.ensures.told)
-
-pub returns-in-Ok-None-clause-called : goal.returns-in-Ok-None-clause-called
-returns-in-Ok-None-clause-called g c =
-    let source = g.S.EventSource in
-    called_more source.told source.follows c.args.source.now c.loop-turn.source c.next_event.new.self (answer_events c.next_event.result) c.loop-turn.invariant.called c.next_event.ensures.follows
-    (told_answer _ c.next_event.result (source.told c.loop-turn.source) (source.told c.next_event.new.self) c.next_event.ensures.ok c.next_event.ensures.told)
-
-pub returns-in-Err-clause-called : goal.returns-in-Err-clause-called
-returns-in-Err-clause-called g c =
-    let source = g.S.EventSource in
-    called_more source.told source.follows c.args.source.now c.loop-turn.source c.next_event.new.self (answer_events c.next_event.result) c.loop-turn.invariant.called c.next_event.ensures.follows
-    (told_answer _ c.next_event.result (source.told c.loop-turn.source) (source.told c.next_event.new.self) c.next_event.ensures.ok c.next_event.ensures.told)
+returns-clause-stopped g c = (search rules, (c.loop-turn.invariant.still_open, omega (arith, c.loop-turn.invariant.count, c.loop-turn.auto.turn-end, c.loop-turn-test.false)))
 
 pub returns-in-Ended-clause-ok : goal.returns-in-Ended-clause-ok
 returns-in-Ended-clause-ok g c =
@@ -56,101 +32,84 @@ returns-in-Ended-clause-ok g c =
     (frame state g.H.LineEditorHost.value c.args.editor.now c.args.host.now) (frame state g.H.LineEditorHost.value c.loop-turn.editor c.loop-turn.host) (frame state g.H.LineEditorHost.value c.feed.new.editor c.feed.new.host)
     c.loop-turn.invariant.comes (rw c.in-Ok-Some.field-0-is at c.in-Ok-Some.ensures.ok) c.in_ok-feed-in-Ok-Some.ensures.ok
 
-pub returns-in_err-feed-in-Ok-Some-clause-led : goal.returns-in_err-feed-in-Ok-Some-clause-led
-returns-in_err-feed-in-Ok-Some-clause-led g c =
-    let source = g.S.EventSource in
-    led_on g.T.DeviceTerminal.does (source.told c.args.source.now) (source.told c.loop-turn.source) (source.told c.next_event.new.self) (event_view c.in-Ok-Some.event ∷ [])
-    c.args.editor.now.terminal.now c.loop-turn.editor.terminal.now c.feed.new.editor.terminal.now c.loop-turn.invariant.led
-    (rw c.in-Ok-Some.field-0-is at c.in-Ok-Some.ensures.ok) c.in_err-feed-in-Ok-Some.ensures.led
-
-pub returns-in-Ended-clause-led : goal.returns-in-Ended-clause-led
-returns-in-Ended-clause-led g c =
-    let source = g.S.EventSource in
-    led_on g.T.DeviceTerminal.does (source.told c.args.source.now) (source.told c.loop-turn.source) (source.told c.next_event.new.self) (event_view c.in-Ok-Some.event ∷ [])
-    c.args.editor.now.terminal.now c.loop-turn.editor.terminal.now c.feed.new.editor.terminal.now c.loop-turn.invariant.led
-    (rw c.in-Ok-Some.field-0-is at c.in-Ok-Some.ensures.ok) c.in_ok-feed-in-Ok-Some.ensures.led
-
-pub returns-in-Ok-None-clause-led : goal.returns-in-Ok-None-clause-led
-returns-in-Ok-None-clause-led g c =
-    let source = g.S.EventSource in
-    led_still g.T.DeviceTerminal.does (source.told c.args.source.now) (source.told c.loop-turn.source) (source.told c.next_event.new.self)
-    c.args.editor.now.terminal.now c.loop-turn.editor.terminal.now c.loop-turn.invariant.led (rw c.in-Ok-None.field-0-is at c.in-Ok-None.ensures.ok).0
-
-pub returns-in-Err-clause-led : goal.returns-in-Err-clause-led
-returns-in-Err-clause-led g c =
-    let source = g.S.EventSource in
-    led_still g.T.DeviceTerminal.does (source.told c.args.source.now) (source.told c.loop-turn.source) (source.told c.next_event.new.self)
-    c.args.editor.now.terminal.now c.loop-turn.editor.terminal.now c.loop-turn.invariant.led c.in-Err.ensures.told
-
-pub returns-clause-led : goal.returns-clause-led
-returns-clause-led g c = c.loop-turn.invariant.led
-
-pub returns-in_err-feed-in-Ok-Some-clause-along : goal.returns-in_err-feed-in-Ok-Some-clause-along
-returns-in_err-feed-in-Ok-Some-clause-along g c =
+pub returns-in_err-feed-in-Ok-Some-clause-taken : goal.returns-in_err-feed-in-Ok-Some-clause-taken
+returns-in_err-feed-in-Ok-Some-clause-taken g c =
     let source = g.S.EventSource in
     let state = g.T.Terminal.state in
-    told_along_event g.T.Terminal.state g.T.DeviceTerminal.does g.H.LineEditorHost.rules g.H.LineEditorHost.OVERRIDES (source.told c.args.source.now) (source.told c.loop-turn.source) (source.told c.next_event.new.self) (event_view c.in-Ok-Some.event)
-    (frame state g.H.LineEditorHost.value c.args.editor.now c.args.host.now) (frame state g.H.LineEditorHost.value c.loop-turn.editor c.loop-turn.host)
-    c.args.editor.now.terminal.now c.loop-turn.editor.terminal.now c.feed.new.editor.terminal.now c.loop-turn.invariant.along c.loop-turn.invariant.comes refl
-    (rw c.in-Ok-Some.field-0-is at c.in-Ok-Some.ensures.ok) c.in_err-feed-in-Ok-Some.ensures.sized
+    record {
+      called = called_more source.told source.follows c.args.source.now c.loop-turn.source c.next_event.new.self (answer_events c.next_event.result) c.loop-turn.invariant.taken.called c.next_event.ensures.follows
+          (told_answer _ c.next_event.result (source.told c.loop-turn.source) (source.told c.next_event.new.self) c.next_event.ensures.ok c.next_event.ensures.told);
+      led = led_on g.T.DeviceTerminal.does (source.told c.args.source.now) (source.told c.loop-turn.source) (source.told c.next_event.new.self) (event_view c.in-Ok-Some.event ∷ [])
+          c.args.editor.now.terminal.now c.loop-turn.editor.terminal.now c.feed.new.editor.terminal.now c.loop-turn.invariant.taken.led
+          (rw c.in-Ok-Some.field-0-is at c.in-Ok-Some.ensures.ok) c.in_err-feed-in-Ok-Some.ensures.fed.led;
+      along = told_along_event g.T.Terminal.state g.T.DeviceTerminal.does g.H.LineEditorHost.rules g.H.LineEditorHost.OVERRIDES (source.told c.args.source.now) (source.told c.loop-turn.source) (source.told c.next_event.new.self) (event_view c.in-Ok-Some.event)
+          (frame state g.H.LineEditorHost.value c.args.editor.now c.args.host.now) (frame state g.H.LineEditorHost.value c.loop-turn.editor c.loop-turn.host)
+          c.args.editor.now.terminal.now c.loop-turn.editor.terminal.now c.feed.new.editor.terminal.now c.loop-turn.invariant.taken.along c.loop-turn.invariant.comes refl
+          (rw c.in-Ok-Some.field-0-is at c.in-Ok-Some.ensures.ok) c.in_err-feed-in-Ok-Some.ensures.fed.sized;
+      asked = asked_more g.T.Terminal.state g.T.Terminal.follows g.T.DeviceTerminal.may_keep g.T.DeviceTerminal.does g.S.EventSource.at_hand g.S.EventSource.follows
+          c.args.source.now c.loop-turn.source c.next_event.new.self c.args.editor.now.terminal.now c.loop-turn.editor.terminal.now c.feed.new.editor.terminal.now
+          (answer_events c.next_event.result) (event_view c.in-Ok-Some.event ∷ []) c.has_at_hand.result c.loop-turn.invariant.taken.asked c.next_event.ensures.follows
+          (ap answer_events c.in-Ok-Some.is ∙ ap (λ event. answer_events {E = TerminalFault} (Ok event)) c.in-Ok-Some.field-0-is) c.has_at_hand.ensures c.in_err-feed-in-Ok-Some.ensures.fed.fed;
+    }
 
-pub returns-in-Ended-clause-along : goal.returns-in-Ended-clause-along
-returns-in-Ended-clause-along g c =
+pub returns-in-Ended-clause-taken : goal.returns-in-Ended-clause-taken
+returns-in-Ended-clause-taken g c =
     let source = g.S.EventSource in
     let state = g.T.Terminal.state in
-    told_along_event g.T.Terminal.state g.T.DeviceTerminal.does g.H.LineEditorHost.rules g.H.LineEditorHost.OVERRIDES (source.told c.args.source.now) (source.told c.loop-turn.source) (source.told c.next_event.new.self) (event_view c.in-Ok-Some.event)
-    (frame state g.H.LineEditorHost.value c.args.editor.now c.args.host.now) (frame state g.H.LineEditorHost.value c.loop-turn.editor c.loop-turn.host)
-    c.args.editor.now.terminal.now c.loop-turn.editor.terminal.now c.feed.new.editor.terminal.now c.loop-turn.invariant.along c.loop-turn.invariant.comes refl
-    (rw c.in-Ok-Some.field-0-is at c.in-Ok-Some.ensures.ok) c.in_ok-feed-in-Ok-Some.ensures.sized
+    record {
+      called = called_more source.told source.follows c.args.source.now c.loop-turn.source c.next_event.new.self (answer_events c.next_event.result) c.loop-turn.invariant.taken.called c.next_event.ensures.follows
+          (told_answer _ c.next_event.result (source.told c.loop-turn.source) (source.told c.next_event.new.self) c.next_event.ensures.ok c.next_event.ensures.told);
+      led = led_on g.T.DeviceTerminal.does (source.told c.args.source.now) (source.told c.loop-turn.source) (source.told c.next_event.new.self) (event_view c.in-Ok-Some.event ∷ [])
+          c.args.editor.now.terminal.now c.loop-turn.editor.terminal.now c.feed.new.editor.terminal.now c.loop-turn.invariant.taken.led
+          (rw c.in-Ok-Some.field-0-is at c.in-Ok-Some.ensures.ok) c.in_ok-feed-in-Ok-Some.ensures.fed.led;
+      along = told_along_event g.T.Terminal.state g.T.DeviceTerminal.does g.H.LineEditorHost.rules g.H.LineEditorHost.OVERRIDES (source.told c.args.source.now) (source.told c.loop-turn.source) (source.told c.next_event.new.self) (event_view c.in-Ok-Some.event)
+          (frame state g.H.LineEditorHost.value c.args.editor.now c.args.host.now) (frame state g.H.LineEditorHost.value c.loop-turn.editor c.loop-turn.host)
+          c.args.editor.now.terminal.now c.loop-turn.editor.terminal.now c.feed.new.editor.terminal.now c.loop-turn.invariant.taken.along c.loop-turn.invariant.comes refl
+          (rw c.in-Ok-Some.field-0-is at c.in-Ok-Some.ensures.ok) c.in_ok-feed-in-Ok-Some.ensures.fed.sized;
+      asked = asked_more g.T.Terminal.state g.T.Terminal.follows g.T.DeviceTerminal.may_keep g.T.DeviceTerminal.does g.S.EventSource.at_hand g.S.EventSource.follows
+          c.args.source.now c.loop-turn.source c.next_event.new.self c.args.editor.now.terminal.now c.loop-turn.editor.terminal.now c.feed.new.editor.terminal.now
+          (answer_events c.next_event.result) (event_view c.in-Ok-Some.event ∷ []) c.has_at_hand.result c.loop-turn.invariant.taken.asked c.next_event.ensures.follows
+          (ap answer_events c.in-Ok-Some.is ∙ ap (λ event. answer_events {E = TerminalFault} (Ok event)) c.in-Ok-Some.field-0-is) c.has_at_hand.ensures c.in_ok-feed-in-Ok-Some.ensures.fed.fed;
+    }
 
-pub returns-in-Ok-None-clause-along : goal.returns-in-Ok-None-clause-along
-returns-in-Ok-None-clause-along g c =
+pub returns-in-Ok-None-clause-taken : goal.returns-in-Ok-None-clause-taken
+returns-in-Ok-None-clause-taken g c =
     let source = g.S.EventSource in
     let state = g.T.Terminal.state in
-    told_along_still g.T.Terminal.state g.T.DeviceTerminal.does (taken_on g.H.LineEditorHost.rules (frame state g.H.LineEditorHost.value c.args.editor.now c.args.host.now))
-    (source.told c.args.source.now) (source.told c.loop-turn.source) (source.told c.next_event.new.self)
-    c.args.editor.now.terminal.now c.loop-turn.editor.terminal.now c.loop-turn.invariant.along (rw c.in-Ok-None.field-0-is at c.in-Ok-None.ensures.ok).0
+    record {
+      called = called_more source.told source.follows c.args.source.now c.loop-turn.source c.next_event.new.self (answer_events c.next_event.result) c.loop-turn.invariant.taken.called c.next_event.ensures.follows
+          (told_answer _ c.next_event.result (source.told c.loop-turn.source) (source.told c.next_event.new.self) c.next_event.ensures.ok c.next_event.ensures.told);
+      led = led_still g.T.DeviceTerminal.does (source.told c.args.source.now) (source.told c.loop-turn.source) (source.told c.next_event.new.self)
+          c.args.editor.now.terminal.now c.loop-turn.editor.terminal.now c.loop-turn.invariant.taken.led (rw c.in-Ok-None.field-0-is at c.in-Ok-None.ensures.ok).0;
+      along = told_along_still g.T.Terminal.state g.T.DeviceTerminal.does (taken_on g.H.LineEditorHost.rules (frame state g.H.LineEditorHost.value c.args.editor.now c.args.host.now))
+          (source.told c.args.source.now) (source.told c.loop-turn.source) (source.told c.next_event.new.self)
+          c.args.editor.now.terminal.now c.loop-turn.editor.terminal.now c.loop-turn.invariant.taken.along (rw c.in-Ok-None.field-0-is at c.in-Ok-None.ensures.ok).0;
+      asked = asked_more g.T.Terminal.state g.T.Terminal.follows g.T.DeviceTerminal.may_keep g.T.DeviceTerminal.does g.S.EventSource.at_hand g.S.EventSource.follows
+          c.args.source.now c.loop-turn.source c.next_event.new.self c.args.editor.now.terminal.now c.loop-turn.editor.terminal.now c.loop-turn.editor.terminal.now
+          (answer_events c.next_event.result) [] (source.at_hand c.next_event.new.self) c.loop-turn.invariant.taken.asked c.next_event.ensures.follows
+          (ap answer_events c.in-Ok-None.is ∙ ap (λ event. answer_events {E = TerminalFault} (Ok event)) c.in-Ok-None.field-0-is) refl refl;
+    }
 
-pub returns-in-Err-clause-along : goal.returns-in-Err-clause-along
-returns-in-Err-clause-along g c =
+pub returns-in-Err-clause-taken : goal.returns-in-Err-clause-taken
+returns-in-Err-clause-taken g c =
     let source = g.S.EventSource in
     let state = g.T.Terminal.state in
-    told_along_still g.T.Terminal.state g.T.DeviceTerminal.does (taken_on g.H.LineEditorHost.rules (frame state g.H.LineEditorHost.value c.args.editor.now c.args.host.now))
-    (source.told c.args.source.now) (source.told c.loop-turn.source) (source.told c.next_event.new.self)
-    c.args.editor.now.terminal.now c.loop-turn.editor.terminal.now c.loop-turn.invariant.along c.in-Err.ensures.told
+    record {
+      called = called_more source.told source.follows c.args.source.now c.loop-turn.source c.next_event.new.self (answer_events c.next_event.result) c.loop-turn.invariant.taken.called c.next_event.ensures.follows
+          (told_answer _ c.next_event.result (source.told c.loop-turn.source) (source.told c.next_event.new.self) c.next_event.ensures.ok c.next_event.ensures.told);
+      led = led_still g.T.DeviceTerminal.does (source.told c.args.source.now) (source.told c.loop-turn.source) (source.told c.next_event.new.self)
+          c.args.editor.now.terminal.now c.loop-turn.editor.terminal.now c.loop-turn.invariant.taken.led c.in-Err.ensures.told;
+      along = told_along_still g.T.Terminal.state g.T.DeviceTerminal.does (taken_on g.H.LineEditorHost.rules (frame state g.H.LineEditorHost.value c.args.editor.now c.args.host.now))
+          (source.told c.args.source.now) (source.told c.loop-turn.source) (source.told c.next_event.new.self)
+          c.args.editor.now.terminal.now c.loop-turn.editor.terminal.now c.loop-turn.invariant.taken.along c.in-Err.ensures.told;
+      asked = asked_more g.T.Terminal.state g.T.Terminal.follows g.T.DeviceTerminal.may_keep g.T.DeviceTerminal.does g.S.EventSource.at_hand g.S.EventSource.follows
+          c.args.source.now c.loop-turn.source c.next_event.new.self c.args.editor.now.terminal.now c.loop-turn.editor.terminal.now c.loop-turn.editor.terminal.now
+          (answer_events c.next_event.result) [] (source.at_hand c.next_event.new.self) c.loop-turn.invariant.taken.asked c.next_event.ensures.follows
+          (ap answer_events c.in-Err.is) refl refl;
+    }
 
-pub returns-in_err-feed-in-Ok-Some-clause-asked : goal.returns-in_err-feed-in-Ok-Some-clause-asked
-returns-in_err-feed-in-Ok-Some-clause-asked g c =
-    asked_more g.T.Terminal.state g.T.Terminal.follows g.T.DeviceTerminal.may_keep g.T.DeviceTerminal.does g.S.EventSource.at_hand g.S.EventSource.follows
-    c.args.source.now c.loop-turn.source c.next_event.new.self c.args.editor.now.terminal.now c.loop-turn.editor.terminal.now c.feed.new.editor.terminal.now
-    (answer_events c.next_event.result) (event_view c.in-Ok-Some.event ∷ []) c.has_at_hand.result c.loop-turn.invariant.asked c.next_event.ensures.follows
-    (ap answer_events c.in-Ok-Some.is ∙ ap (λ event. answer_events {E = TerminalFault} (Ok event)) c.in-Ok-Some.field-0-is) c.has_at_hand.ensures c.in_err-feed-in-Ok-Some.ensures.fed
-
-pub returns-in-Ended-clause-asked : goal.returns-in-Ended-clause-asked
-returns-in-Ended-clause-asked g c =
-    asked_more g.T.Terminal.state g.T.Terminal.follows g.T.DeviceTerminal.may_keep g.T.DeviceTerminal.does g.S.EventSource.at_hand g.S.EventSource.follows
-    c.args.source.now c.loop-turn.source c.next_event.new.self c.args.editor.now.terminal.now c.loop-turn.editor.terminal.now c.feed.new.editor.terminal.now
-    (answer_events c.next_event.result) (event_view c.in-Ok-Some.event ∷ []) c.has_at_hand.result c.loop-turn.invariant.asked c.next_event.ensures.follows
-    (ap answer_events c.in-Ok-Some.is ∙ ap (λ event. answer_events {E = TerminalFault} (Ok event)) c.in-Ok-Some.field-0-is) c.has_at_hand.ensures c.in_ok-feed-in-Ok-Some.ensures.fed
-
-pub returns-in-Ok-None-clause-asked : goal.returns-in-Ok-None-clause-asked
-returns-in-Ok-None-clause-asked g c =
-    let source = g.S.EventSource in
-    asked_more g.T.Terminal.state g.T.Terminal.follows g.T.DeviceTerminal.may_keep g.T.DeviceTerminal.does g.S.EventSource.at_hand g.S.EventSource.follows
-    c.args.source.now c.loop-turn.source c.next_event.new.self c.args.editor.now.terminal.now c.loop-turn.editor.terminal.now c.loop-turn.editor.terminal.now
-    (answer_events c.next_event.result) [] (source.at_hand c.next_event.new.self) c.loop-turn.invariant.asked c.next_event.ensures.follows
-    (ap answer_events c.in-Ok-None.is ∙ ap (λ event. answer_events {E = TerminalFault} (Ok event)) c.in-Ok-None.field-0-is) refl refl
-
-pub returns-in-Err-clause-asked : goal.returns-in-Err-clause-asked
-returns-in-Err-clause-asked g c =
-    let source = g.S.EventSource in
-    asked_more g.T.Terminal.state g.T.Terminal.follows g.T.DeviceTerminal.may_keep g.T.DeviceTerminal.does g.S.EventSource.at_hand g.S.EventSource.follows
-    c.args.source.now c.loop-turn.source c.next_event.new.self c.args.editor.now.terminal.now c.loop-turn.editor.terminal.now c.loop-turn.editor.terminal.now
-    (answer_events c.next_event.result) [] (source.at_hand c.next_event.new.self) c.loop-turn.invariant.asked c.next_event.ensures.follows
-    (ap answer_events c.in-Err.is) refl refl
-
-pub returns-clause-along : goal.returns-clause-along
-returns-clause-along g c = c.loop-turn.invariant.along
+pub returns-clause-taken : goal.returns-clause-taken
+returns-clause-taken g c = c.loop-turn.invariant.taken
 
 pub loop-turn-preserved : goal.loop-turn-preserved
 loop-turn-preserved g c =
@@ -166,19 +125,21 @@ loop-turn-preserved g c =
           c.loop-turn.invariant.comes told c.in_ok-feed-in-Ok-Some.ensures.ok;
       count = counted rules_of overrides (source.told c.args.source.now) (source.told c.loop-turn.source) (source.told c.next_event.new.self) (event_view c.in-Ok-Some.event) c.loop-turn.turn
           c.loop-turn.invariant.count told;
-      called = called_more source.told source.follows c.args.source.now c.loop-turn.source c.next_event.new.self (answer_events c.next_event.result) c.loop-turn.invariant.called c.next_event.ensures.follows
-          (told_answer _ c.next_event.result (source.told c.loop-turn.source) (source.told c.next_event.new.self) c.next_event.ensures.ok c.next_event.ensures.told);
-      led = led_on g.T.DeviceTerminal.does (source.told c.args.source.now) (source.told c.loop-turn.source) (source.told c.next_event.new.self) (event_view c.in-Ok-Some.event ∷ [])
-          c.args.editor.now.terminal.now c.loop-turn.editor.terminal.now c.feed.new.editor.terminal.now c.loop-turn.invariant.led
-          (rw c.in-Ok-Some.field-0-is at c.in-Ok-Some.ensures.ok) c.in_ok-feed-in-Ok-Some.ensures.led;
-      along = told_along_event g.T.Terminal.state g.T.DeviceTerminal.does rules_of overrides (source.told c.args.source.now) (source.told c.loop-turn.source) (source.told c.next_event.new.self) (event_view c.in-Ok-Some.event)
-          (frame state g.H.LineEditorHost.value c.args.editor.now c.args.host.now) (frame state g.H.LineEditorHost.value c.loop-turn.editor c.loop-turn.host)
-          c.args.editor.now.terminal.now c.loop-turn.editor.terminal.now c.feed.new.editor.terminal.now c.loop-turn.invariant.along c.loop-turn.invariant.comes refl
-          told c.in_ok-feed-in-Ok-Some.ensures.sized;
-      asked = asked_more g.T.Terminal.state g.T.Terminal.follows g.T.DeviceTerminal.may_keep g.T.DeviceTerminal.does g.S.EventSource.at_hand g.S.EventSource.follows
-          c.args.source.now c.loop-turn.source c.next_event.new.self c.args.editor.now.terminal.now c.loop-turn.editor.terminal.now c.feed.new.editor.terminal.now
-          (answer_events c.next_event.result) (event_view c.in-Ok-Some.event ∷ []) c.has_at_hand.result c.loop-turn.invariant.asked c.next_event.ensures.follows
-          (ap answer_events c.in-Ok-Some.is ∙ ap (λ event. answer_events {E = TerminalFault} (Ok event)) c.in-Ok-Some.field-0-is) c.has_at_hand.ensures c.in_ok-feed-in-Ok-Some.ensures.fed;
+      taken = record {
+        called = called_more source.told source.follows c.args.source.now c.loop-turn.source c.next_event.new.self (answer_events c.next_event.result) c.loop-turn.invariant.taken.called c.next_event.ensures.follows
+            (told_answer _ c.next_event.result (source.told c.loop-turn.source) (source.told c.next_event.new.self) c.next_event.ensures.ok c.next_event.ensures.told);
+        led = led_on g.T.DeviceTerminal.does (source.told c.args.source.now) (source.told c.loop-turn.source) (source.told c.next_event.new.self) (event_view c.in-Ok-Some.event ∷ [])
+            c.args.editor.now.terminal.now c.loop-turn.editor.terminal.now c.feed.new.editor.terminal.now c.loop-turn.invariant.taken.led
+            (rw c.in-Ok-Some.field-0-is at c.in-Ok-Some.ensures.ok) c.in_ok-feed-in-Ok-Some.ensures.fed.led;
+        along = told_along_event g.T.Terminal.state g.T.DeviceTerminal.does rules_of overrides (source.told c.args.source.now) (source.told c.loop-turn.source) (source.told c.next_event.new.self) (event_view c.in-Ok-Some.event)
+            (frame state g.H.LineEditorHost.value c.args.editor.now c.args.host.now) (frame state g.H.LineEditorHost.value c.loop-turn.editor c.loop-turn.host)
+            c.args.editor.now.terminal.now c.loop-turn.editor.terminal.now c.feed.new.editor.terminal.now c.loop-turn.invariant.taken.along c.loop-turn.invariant.comes refl
+            told c.in_ok-feed-in-Ok-Some.ensures.fed.sized;
+        asked = asked_more g.T.Terminal.state g.T.Terminal.follows g.T.DeviceTerminal.may_keep g.T.DeviceTerminal.does g.S.EventSource.at_hand g.S.EventSource.follows
+            c.args.source.now c.loop-turn.source c.next_event.new.self c.args.editor.now.terminal.now c.loop-turn.editor.terminal.now c.feed.new.editor.terminal.now
+            (answer_events c.next_event.result) (event_view c.in-Ok-Some.event ∷ []) c.has_at_hand.result c.loop-turn.invariant.taken.asked c.next_event.ensures.follows
+            (ap answer_events c.in-Ok-Some.is ∙ ap (λ event. answer_events {E = TerminalFault} (Ok event)) c.in-Ok-Some.field-0-is) c.has_at_hand.ensures c.in_ok-feed-in-Ok-Some.ensures.fed.fed;
+      };
       still_open = search rules;
     }
 

@@ -1,11 +1,8 @@
 use Rattle.std.proofs.Common.{◌≡◌, ◌+◌, length, true}
 use Rattle.tw_lineedit.specs.Frame.{frame}
 use Rattle.tw_lineedit.specs.Outcomes.{is_open}
-use Rattle.tw_terminal.specs.Uses.{IsUsed}
-use Rattle.tw_device.specs.Asked.{Asks}
-use Rattle.tw_device.specs.Calls.{IsCalled}
-use Rattle.tw_device.specs.Deeds.{IsLedAsTold}
-use Rattle.tw_device.specs.Led.{taken_on, IsToldAlong}
+use Rattle.tw_device.specs.Asked.{TakesEvents}
+use Rattle.tw_device.specs.Led.{taken_on}
 use Rattle.tw_device.specs.Live.{ComesBy}
 use Rattle.tw_device.proofs.reading.take_events.Given as goal
 
@@ -17,11 +14,7 @@ invariant-loop-turn g l =
       comes : ComesBy g.H.LineEditorHost.rules g.H.LineEditorHost.OVERRIDES (g.S.EventSource.told l.fn.source) (g.S.EventSource.told l.source)
           (frame state g.H.LineEditorHost.value l.fn.editor l.fn.host) (frame state g.H.LineEditorHost.value l.editor l.host);
       count : length (g.S.EventSource.told l.source) ≡ length (g.S.EventSource.told l.fn.source) + l.turn;
-      called : IsCalled g.S.EventSource.told g.S.EventSource.follows l.fn.source l.source;
-      led : IsLedAsTold g.T.DeviceTerminal.does (g.S.EventSource.told l.fn.source) (g.S.EventSource.told l.source) l.fn.editor.terminal.now l.editor.terminal.now;
-      along : IsToldAlong g.T.Terminal.state g.T.DeviceTerminal.does (taken_on g.H.LineEditorHost.rules (frame state g.H.LineEditorHost.value l.fn.editor l.fn.host))
-          (g.S.EventSource.told l.fn.source) (g.S.EventSource.told l.source) l.fn.editor.terminal.now l.editor.terminal.now;
-      asked : IsUsed (Asks g.T.Terminal.state g.T.Terminal.follows g.T.DeviceTerminal.may_keep g.T.DeviceTerminal.does g.S.EventSource.at_hand g.S.EventSource.follows)
-          (l.fn.source, l.fn.editor.terminal.now) (l.source, l.editor.terminal.now);
+      taken : TakesEvents g.T.Terminal.state g.T.Terminal.follows g.T.DeviceTerminal.may_keep g.T.DeviceTerminal.does g.S.EventSource.at_hand g.S.EventSource.follows g.S.EventSource.told
+          (taken_on g.H.LineEditorHost.rules (frame state g.H.LineEditorHost.value l.fn.editor l.fn.host)) l.fn.source l.source l.fn.editor.terminal.now l.editor.terminal.now;
       still_open : is_open l.editor.session.state.mode ≡ true;
     }

@@ -1,4 +1,4 @@
-use Rattle.std.proofs.Common.{ℕ, List, option_map, Bor}
+use Rattle.std.proofs.Common.{ℕ, List, option_map, Bor, rules}
 use Rattle.std.proofs.lemmas.Result.{IfErr-weaker, err_from_is_err_and}
 use Rattle.tw_lineedit.proofs.FeedingLemmas.{turned_down}
 use Rattle.tw_lineedit.proofs.TurnLemmas.{refused_begun}
@@ -15,5 +15,5 @@ returns-in_err-start_line-clause-err g c =
 pub returns-clause-err : goal.returns-clause-err
 returns-clause-err g c = IfErr-weaker c.run_to_end.result _ _ (refused_begun g.H.LineEditorHost.rules g.H.LineEditorHost.OVERRIDES (option_map {T = Bor (List ℕ)} {U = List ℕ} (λ s. s.now) c.args.initial) (frame g.T.Terminal.state g.H.LineEditorHost.value c.args.self.now c.args.host.now) _ _ c.in_ok-start_line.ensures.ok) c.run_to_end.ensures.err
 
-pub returns-clause-used : goal.returns-clause-used
-returns-clause-used g c = used_then g.T.Terminal.follows _ _ _ c.in_ok-start_line.ensures.used c.run_to_end.ensures.used
+pub returns-clause-terminal : goal.returns-clause-terminal
+returns-clause-terminal g c = (search rules, used_then g.T.Terminal.follows _ _ _ c.in_ok-start_line.ensures.terminal.1 c.run_to_end.ensures.terminal.1)

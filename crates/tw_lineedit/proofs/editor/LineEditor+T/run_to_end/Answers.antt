@@ -20,18 +20,18 @@ returns-in_err-answer-clause-err g c =
     (frame g.T.Terminal.state g.H.LineEditorHost.value c.turn.new.self c.turn.new.host) _ c.in_err-answer.field-0.0
     (ended_later g.H.LineEditorHost.rules g.H.LineEditorHost.OVERRIDES _ _ _ c.loop.invariant.follows (rw c.if-branch.false at c.in_ok-turn.ensures.ok)) refl c.in_err-answer.ensures.err)
 
-pub returns-in_err-answer-clause-used : goal.returns-in_err-answer-clause-used
-returns-in_err-answer-clause-used g c = used_then g.T.Terminal.follows _ _ _ c.loop.invariant.used c.in_ok-turn.ensures.used
+pub returns-in_err-answer-clause-terminal : goal.returns-in_err-answer-clause-terminal
+returns-in_err-answer-clause-terminal g c = (search rules, used_then g.T.Terminal.follows _ _ _ c.loop.invariant.used c.in_ok-turn.ensures.terminal.1)
 
 pub loop-preserved : goal.loop-preserved
 loop-preserved g c = record {
   same_reference = search rules;
   follows = search rules;
-  used = used_then g.T.Terminal.follows _ _ _ c.loop.invariant.used c.turn.ensures.used;
+  used = used_then g.T.Terminal.follows _ _ _ c.loop.invariant.used c.turn.ensures.terminal.1;
 }
 
-pub returns-in_err-turn-clause-used : goal.returns-in_err-turn-clause-used
-returns-in_err-turn-clause-used g c = used_then g.T.Terminal.follows _ _ _ c.loop.invariant.used c.in_err-turn.ensures.used
+pub returns-in_err-turn-clause-terminal : goal.returns-in_err-turn-clause-terminal
+returns-in_err-turn-clause-terminal g c = (search rules, used_then g.T.Terminal.follows _ _ _ c.loop.invariant.used c.in_err-turn.ensures.terminal.1)
 
-pub returns-clause-used : goal.returns-clause-used
-returns-clause-used g c = used_then g.T.Terminal.follows _ _ _ c.loop.invariant.used c.in_ok-turn.ensures.used
+pub returns-clause-terminal : goal.returns-clause-terminal
+returns-clause-terminal g c = (search rules, used_then g.T.Terminal.follows _ _ _ c.loop.invariant.used c.in_ok-turn.ensures.terminal.1)

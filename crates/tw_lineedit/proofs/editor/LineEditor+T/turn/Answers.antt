@@ -1,4 +1,4 @@
-use Rattle.std.proofs.Common.{refl, sym}
+use Rattle.std.proofs.Common.{refl, sym, rules}
 use Rattle.std.proofs.lemmas.Result.{err_from_is_err_and}
 use Rattle.tw_terminal.specs.Uses.Call.{Other}
 use Rattle.tw_session.specs.declared.error.Error.TheVariants.{Terminal}
@@ -28,14 +28,14 @@ returns-in-None-clause-ok g c =
     let at_end = rw c.in-None.is at c.in_ok-event.ensures.ok in
     done g.H.LineEditorHost.rules g.H.LineEditorHost.OVERRIDES _ _ (record { same = same_frame g.H.LineEditorHost.rules _ _ refl refl refl at_end.rest; events = at_end.events })
 
-pub returns-in_err-advance-in-Some-clause-used : goal.returns-in_err-advance-in-Some-clause-used
-returns-in_err-advance-in-Some-clause-used g c = used_then g.T.Terminal.follows _ _ _ (used_once g.T.Terminal.follows Other _ _ c.in_ok-event.ensures.follows) c.in_err-advance-in-Some.ensures.used
+pub returns-in_err-advance-in-Some-clause-terminal : goal.returns-in_err-advance-in-Some-clause-terminal
+returns-in_err-advance-in-Some-clause-terminal g c = (search rules, used_then g.T.Terminal.follows _ _ _ (used_once g.T.Terminal.follows Other _ _ c.in_ok-event.ensures.follows) c.in_err-advance-in-Some.ensures.terminal.1)
 
-pub returns-in_ok-advance-in-Some-clause-used : goal.returns-in_ok-advance-in-Some-clause-used
-returns-in_ok-advance-in-Some-clause-used g c = used_then g.T.Terminal.follows _ _ _ (used_once g.T.Terminal.follows Other _ _ c.in_ok-event.ensures.follows) c.in_ok-advance-in-Some.ensures.used
+pub returns-in_ok-advance-in-Some-clause-terminal : goal.returns-in_ok-advance-in-Some-clause-terminal
+returns-in_ok-advance-in-Some-clause-terminal g c = (search rules, used_then g.T.Terminal.follows _ _ _ (used_once g.T.Terminal.follows Other _ _ c.in_ok-event.ensures.follows) c.in_ok-advance-in-Some.ensures.terminal.1)
 
-pub returns-in_err-event-clause-used : goal.returns-in_err-event-clause-used
-returns-in_err-event-clause-used g c = used_once g.T.Terminal.follows Other _ _ c.in_err-event.ensures.follows
+pub returns-in_err-event-clause-terminal : goal.returns-in_err-event-clause-terminal
+returns-in_err-event-clause-terminal g c = (search rules, used_once g.T.Terminal.follows Other _ _ c.in_err-event.ensures.follows)
 
-pub returns-in-None-clause-used : goal.returns-in-None-clause-used
-returns-in-None-clause-used g c = used_once g.T.Terminal.follows Other _ _ c.in_ok-event.ensures.follows
+pub returns-in-None-clause-terminal : goal.returns-in-None-clause-terminal
+returns-in-None-clause-terminal g c = (search rules, used_once g.T.Terminal.follows Other _ _ c.in_ok-event.ensures.follows)

@@ -1,4 +1,4 @@
-use Rattle.std.proofs.Common.{◌++◌, ◌∙◌, refl, ap, map}
+use Rattle.std.proofs.Common.{◌++◌, ◌∙◌, refl, ap, map, rules}
 use Rattle.std.proofs.lemmas.Result.{err_from_is_err_and}
 use Rattle.tw_surface.specs.ChangeView.{change_view, batch_view}
 use Rattle.tw_terminal.specs.Uses.Call.{Other, Refused}
@@ -27,17 +27,17 @@ returns-clause-ok g c =
 pub returns-clause-shows : goal.returns-clause-shows
 returns-clause-shows g c = shows_above g.H.LineEditorHost.rules c.args.text.now _ _ (returns-clause-ok g c)
 
-pub returns-in_err-size-clause-used : goal.returns-in_err-size-clause-used
-returns-in_err-size-clause-used g c = used_once g.T.Terminal.follows Other _ _ c.get_screen_size.ensures.follows
+pub returns-in_err-size-clause-terminal : goal.returns-in_err-size-clause-terminal
+returns-in_err-size-clause-terminal g c = (search rules, used_once g.T.Terminal.follows Other _ _ c.get_screen_size.ensures.follows)
 
-pub returns-in_err-painting-clause-used : goal.returns-in_err-painting-clause-used
-returns-in_err-painting-clause-used g c = used_once g.T.Terminal.follows Other _ _ c.get_screen_size.ensures.follows
+pub returns-in_err-painting-clause-terminal : goal.returns-in_err-painting-clause-terminal
+returns-in_err-painting-clause-terminal g c = (search rules, used_once g.T.Terminal.follows Other _ _ c.get_screen_size.ensures.follows)
 
-pub returns-in_err-batch-clause-used : goal.returns-in_err-batch-clause-used
-returns-in_err-batch-clause-used g c = used_once g.T.Terminal.follows Other _ _ c.get_screen_size.ensures.follows
+pub returns-in_err-batch-clause-terminal : goal.returns-in_err-batch-clause-terminal
+returns-in_err-batch-clause-terminal g c = (search rules, used_once g.T.Terminal.follows Other _ _ c.get_screen_size.ensures.follows)
 
-pub returns-in_err-render-clause-used : goal.returns-in_err-render-clause-used
-returns-in_err-render-clause-used g c = used_then g.T.Terminal.follows _ _ _ (used_once g.T.Terminal.follows Other _ _ c.get_screen_size.ensures.follows) (used_once g.T.Terminal.follows Refused _ _ c.in_err-render.ensures.refused)
+pub returns-in_err-render-clause-terminal : goal.returns-in_err-render-clause-terminal
+returns-in_err-render-clause-terminal g c = (search rules, used_then g.T.Terminal.follows _ _ _ (used_once g.T.Terminal.follows Other _ _ c.get_screen_size.ensures.follows) (used_once g.T.Terminal.follows Refused _ _ c.in_err-render.ensures.refused))
 
-pub returns-clause-used : goal.returns-clause-used
-returns-clause-used g c = used_then g.T.Terminal.follows _ _ _ (used_once g.T.Terminal.follows Other _ _ c.get_screen_size.ensures.follows) (used_once g.T.Terminal.follows _ _ _ c.in_ok-render.ensures.took)
+pub returns-clause-terminal : goal.returns-clause-terminal
+returns-clause-terminal g c = (search rules, used_then g.T.Terminal.follows _ _ _ (used_once g.T.Terminal.follows Other _ _ c.get_screen_size.ensures.follows) (used_once g.T.Terminal.follows _ _ _ c.in_ok-render.ensures.took))
