@@ -11,9 +11,6 @@
 //! ..
 //! if self.terminal.cell(row, col) != table.cell(row, col) {
 //! ```
-//!
-//! `grid` has the cells, `rendition` what SGR selects, with `number`, the numbers that digits write, and `terminal` the
-//! terminal itself. `fault` is why it refuses.
 #![tactic(auto)]
 
 mod fault;

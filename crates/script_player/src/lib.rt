@@ -10,13 +10,6 @@
 //! match run(rt.alloc(), &mut reader, &mut writer) {
 //!     Ok(()) => ExitCode::SUCCESS,
 //! ```
-//!
-//! The language: `input` reads a script, `lines` cuts it, and `directive` says what a line asks for, with `number`,
-//! `keys` (their names), `escapes` (what a text stands for) and `events` (those of a line, and events by their names).
-//! `output` writes what is shown, and `fault` says why a run ends early. A run: `player` goes through the lines,
-//! `playback` has what is kept from one to the next, and `new_editor` reads a line with an editor. The host:
-//! `script_host`, with its history `list_history`. The output: `answer` has how a reading ends, `display` what a screen
-//! shows, and `shown` a terminal that shows at once what is rendered.
 #![tactic(auto)]
 
 mod answer;

@@ -11,10 +11,6 @@
 //! let (statement, _) = rest.split_at(len);
 //! self.run_statement(connection, statement)?;
 //! ```
-//!
-//! `lexer` has what a byte of a text stands in, `tokens` the tokens of a text, `statements` where a statement ends,
-//! `words` words and keywords, `names` the names in a text and how one is written, `catalog` the names of a database,
-//! and `completion` what completes a word.
 #![tactic(auto)]
 
 mod catalog;

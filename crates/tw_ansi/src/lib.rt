@@ -11,11 +11,6 @@
 //! ..
 //! encoder.encode(&Change::AllAttributes(attributes), &mut out)?;
 //! ```
-//!
-//! `encode` has what a terminal is sent for changes, with `sequence`, the bytes of control sequences. `decode` reads
-//! what stands at the front of the bytes from a terminal, a `token`: `characters` has the characters and control keys,
-//! `control` the control sequences, and `strings` the control strings. `resume` reads on where a token's bytes come in
-//! many pieces. `laws` has what follows from the definitions.
 #![tactic(auto)]
 
 mod characters;

@@ -11,10 +11,6 @@
 //! ..
 //! send_changed(&before, reached, &after, rows, encoder, out)
 //! ```
-//!
-//! `screen` and `cell` have the model screen, each character in one column. `difference` finds where two screens
-//! differ, `redrawer` adds what is sent for it, and `hand` is where the cursor and the attributes are meanwhile. `laws`
-//! has what follows from the definitions.
 #![tactic(auto)]
 
 mod cell;

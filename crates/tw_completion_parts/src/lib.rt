@@ -16,10 +16,6 @@
 //!     arguments(alloc, "count", Completer::Words(counted))?,
 //! ]?;
 //! ```
-//!
-//! `completers` has where in a line a completion is asked for, and what completes there; `word_lists` words that
-//! complete what stands after a delimiter, and `file_names` file names by listings of directories. `shared` has what
-//! all of several words begin with, and the candidate of what all candidates begin with.
 #![tactic(auto)]
 
 mod completers;

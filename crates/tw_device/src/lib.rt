@@ -13,12 +13,6 @@
 //!     let mut terminal = PatientTerminal::new(alloc, Wire::new(&mut taken, 0), size);
 //!     read_typed_line(alloc, &mut keys, &mut terminal, &mut host, "> ")?
 //! ```
-//!
-//! `device` says what a terminal at a device is, `terminal` has the one over a writer, and `batch_writer` what the
-//! terminals over a writer share; `keys` the source of events over a reader, with `unread`, the bytes that were read
-//! and are not yet taken, `escape`, what an ESC alone is, and `pasted`, what a pasted text becomes; `reading` reads a
-//! line as the events come, and `typed` one from the bytes of a reader. `event_log` has the events that a source told,
-//! which only contracts name.
 #![tactic(auto)]
 
 mod batch_writer;

@@ -12,9 +12,6 @@
 //!     None => Ok(FileHistory::in_memory(rt.alloc(), statements)),
 //! }
 //! ```
-//!
-//! `recent` has the newest lines, `file` how a line stands in a file, and what reads such lines, `written` a history
-//! whose lines are written, and `laws` what follows from the definitions.
 #![tactic(auto)]
 
 mod file;

@@ -18,10 +18,6 @@
 //!         complete_word(alloc, self.known.as_slice(), line, cursor_position)
 //!     }
 //! ```
-//!
-//! `actions` has what the editor can be asked to do; `keys` the key table, which says what each key does; `host` the
-//! trait of hosts, with what they answer, and the host of the default answers. `laws` has what follows from the
-//! definitions.
 #![tactic(auto)]
 
 mod actions;

@@ -14,11 +14,6 @@
 //! elements.push(OutputElement::text(alloc, rest)?)?;
 //! Ok(elements)
 //! ```
-//!
-//! `words` has the words of a line and what completes them; `tokens` how a line is cut into tokens and shown with
-//! keywords and quoted texts in their styles; `bindings` a host's own keys; `hints` what is shown under the line;
-//! `table_host` the host that holds these as plain data. `settling` has the column of the cursor where wide characters
-//! leave cells empty at the screen's edge.
 #![tactic(auto)]
 
 mod bindings;

@@ -10,9 +10,6 @@
 //!     modifiers: Modifiers::NONE,
 //! });
 //! ```
-//!
-//! `key` has the keys and the modifiers that are held with them; `event` what comes from a terminal. `laws` has what
-//! follows from their types.
 #![tactic(auto)]
 
 mod event;

@@ -11,11 +11,6 @@
 //! let others = (words, (history, KillRing::new(alloc)));
 //! (UndoSteps::new(alloc), others)
 //! ```
-//!
-//! `part` has what a part is, `pair` two parts as one, and `plain_keys` parts that hold nothing; `readline_keys`,
-//! `letter_keys`, `word_keys`, `row_keys`, `ring`, `undo`, `last_words` and `prefix_search` the parts; `watch` whether
-//! the editor searches; `keys` which key an event is; `laws` what follows from the definitions; `word_edits` what the
-//! parts do to words and characters; `steps` how many grapheme clusters lead over a word of letters and digits.
 #![tactic(auto)]
 
 mod edit;

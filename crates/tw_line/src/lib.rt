@@ -12,12 +12,6 @@
 //! let cursor = buffer.get_cursor();
 //! let line = buffer.get_line();
 //! ```
-//!
-//! `buffer` has the line with its cursor; `movements` the movements and where they lead, by `clusters`, the steps over
-//! grapheme clusters, and `words`, those over words. `text` is the text that the line stands in, and `starts` the list
-//! of the offsets at which its characters start. `history` has the trait of histories and the one in memory;
-//! `history::nearest` lines that are lent, and the search for the nearest one. `laws` has what follows from the
-//! definitions.
 #![tactic(auto)]
 
 mod buffer;

@@ -1,9 +1,7 @@
 //! A line editor: it reads a line from a terminal, or is fed one, and shows it there.
 //!
-//! `editor` has the editor over a terminal, which reads a line; `editor::feeding` the line that is fed its events
-//! as they come, and `editor::above` a text that is printed above it; `remembering` the reading of a line that the
-//! host then has in its history. `laws` has what the batches of a run are. What they show on screens is in
-//! `laws_runs`. The crates below hold the rest, and what an application needs of them is passed on.
+//! Use it over any `Terminal`, with a host of your own or of `tw_hosts`. The names of the crates below that an
+//! application needs are passed on.
 //!
 //! # Example
 //!

@@ -20,12 +20,6 @@
 //! }
 //! prompt.close()?;
 //! ```
-//!
-//! `prompt` has the prompt, `application` the functions of an application, with `words` and `brackets` for them, `keys`
-//! all parts with keys, and `listings` the names in a directory. At a terminal: `arguments` has what
-//! `tools/at_terminal` tells, `streams` the bytes, `typed` and `events` what is typed, with `joined`, characters that
-//! come at once, `sizes` the sizes that terminals tell, `marks` what one is sent at first and in the end, and
-//! `line_ends` the ends of lines.
 #![tactic(auto)]
 
 mod application;

@@ -10,12 +10,6 @@
 //! self.terminal.render(changes.as_slice())?;
 //! self.session.set_mark(mark);
 //! ```
-//!
-//! `session` has what the editor holds, and the step of each action. The parts are in modules of their own:
-//! `session::prompt` the prompt, `session::edit` the edits of the line, `session::walk` the steps through the history,
-//! `session::search` the incremental search of it, and `session::completion` the candidates that come in in turn.
-//! `painter` has the painting of a line, its mark and the batch that closes it; `error` what a line editor answers in
-//! place of a line, with its numbers and texts. `laws` has what follows from the definitions.
 #![tactic(auto)]
 
 mod error;

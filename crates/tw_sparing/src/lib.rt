@@ -10,9 +10,6 @@
 //! let events = PromptEvents::reading_ahead(alloc, input, rt);
 //! serve_at(rt, events, terminal, size)
 //! ```
-//!
-//! `shown` has what a terminal shows, as far as it is known, `sending` what a batch is sent as then, and `terminal` the
-//! terminal over a writer. `patient` has one that waits while more is at hand, and `ahead` what is drawn meanwhile.
 #![tactic(auto)]
 
 mod ahead;

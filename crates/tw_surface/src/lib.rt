@@ -11,12 +11,6 @@
 //!     screen.apply(change)?;
 //! }
 //! ```
-//!
-//! `change` has the changes and the positions that they move to; `color` and `cell` the attributes of a cell, and the
-//! columns of a text. `sequence` has the `ChangeSequence`: `measure` says where texts lead, by `clusters`, which cuts
-//! them after their first grapheme cluster, and `characters`, which knows plain ones; `size` says which numbers of rows
-//! and columns are refused. `screen` has the model screen without a bottom, and `scrolling_screen` the one with a last
-//! row. `laws` has what follows from the definitions.
 #![tactic(auto)]
 
 mod blocks;

@@ -11,10 +11,6 @@
 //!     terminal.render(&changes[at..at + 1])?;
 //! }
 //! ```
-//!
-//! `terminal` has the trait of terminals, the sizes of their screens and their faults; `log` lists that only contracts
-//! read, and `batch_log` the batches that a terminal took; `script` the terminal that plays a script of events, keeps
-//! what is rendered and fails at a named call. `laws` says that sizes and faults are compared by their values.
 #![tactic(auto)]
 
 mod batch_log;
