@@ -29,8 +29,8 @@ module _ {V W : Type 0} (rules : HostRules V) (contents : W → Option (List ℕ
   record IsOfRun (f : Frame V) (old new : AnsiTerminal W) (held : List ℕ) : Type 0 where
     pub batches : List Batch
     pub taken : (run_of rules f).taken ++ closing_if (run_of rules f).mark ≡ f.terminal.batches ++ batches
-    pub bytes : contents new.output.writer ≡ Some (held ++ (sent_batches batches old.output.encoder).bytes)
-    pub known : new.output.encoder ≡ (sent_batches batches old.output.encoder).next
+    pub bytes : contents new.writer ≡ Some (held ++ (sent_batches batches old.sent.encoder).bytes)
+    pub known : new.sent.encoder ≡ (sent_batches batches old.sent.encoder).next
 
   of_run : (prompt : List ℕ) (value : V) (old new : AnsiTerminal W) (events : List EventView) (held : List ℕ)
       → IsSentReading rules contents prompt value old new events held → IsOfRun (reading_frame prompt value old events) old new held
@@ -47,7 +47,7 @@ module _ {V W : Type 0} (rules : HostRules V) (contents : W → Option (List ℕ
       record {
         batches = sent.0;
         taken = sym reads.batches ∙ sent.1;
-        bytes = appended (contents old.output.writer) (contents new.output.writer) held (sent_batches sent.0 old.output.encoder).bytes k.holds sent.2;
+        bytes = appended (contents old.writer) (contents new.writer) held (sent_batches sent.0 old.sent.encoder).bytes k.holds sent.2;
         known = sent.3;
       }
 
@@ -58,6 +58,6 @@ module _ {V W : Type 0} (rules : HostRules V) (contents : W → Option (List ℕ
       let end : List Batch = closing_if (run_of rules f).mark in
       let all : run.batches ≡ shown ++ end = append_cancel_left f.terminal.batches run.batches (shown ++ end)
       (sym run.taken ∙ ap (λ l. l ++ end) taken ∙ append_assoc f.terminal.batches shown end) in (
-        run.bytes ∙ ap (λ l. Some (held ++ (sent_batches l old.output.encoder).bytes)) all,
-        run.known ∙ ap (λ l. (sent_batches l old.output.encoder).next) all,
+        run.bytes ∙ ap (λ l. Some (held ++ (sent_batches l old.sent.encoder).bytes)) all,
+        run.known ∙ ap (λ l. (sent_batches l old.sent.encoder).next) all,
       )

@@ -204,34 +204,34 @@ module _ {V : Type 0} (rules : HostRules V) where
 
     -- these sized batches were sent on the way, and so many columns are known then
     abbrev IsSentAs : List SizedBatch → ℕ → AnsiTerminal W → AnsiTerminal W → Type 0
-    IsSentAs played w old new = Appends (contents old.output.writer) (contents new.output.writer) (sent_sized played old.output.encoder).bytes
-        × (new.output.encoder ≡ (sent_sized played old.output.encoder).next) × (new.output.encoder.cols ≡ w)
+    IsSentAs played w old new = Appends (contents old.writer) (contents new.writer) (sent_sized played old.sent.encoder).bytes
+        × (new.sent.encoder ≡ (sent_sized played old.sent.encoder).next) × (new.sent.encoder.cols ≡ w)
 
     -- calls send the batches that they take, at the columns that are known
-    calls-sent : (w : ℕ) (played : List Batch) (old new : AnsiTerminal W) → IsLedByCalls (Does contents) old new → new.output.failures ≡ old.output.failures → old.output.failures ≢ usize_max
-        → (terminal_state new).batches ≡ (terminal_state old).batches ++ played → old.output.encoder.cols ≡ w → IsSentAs (sized_at w played) w old new
+    calls-sent : (w : ℕ) (played : List Batch) (old new : AnsiTerminal W) → IsLedByCalls (Does contents) old new → new.sent.failures ≡ old.sent.failures → old.sent.failures ≢ usize_max
+        → (terminal_state new).batches ≡ (terminal_state old).batches ++ played → old.sent.encoder.cols ≡ w → IsSentAs (sized_at w played) w old new
     calls-sent w played old new calls kept below taken same =
         let sent = led_is_sent contents [] old new (led_by_calls (Does contents) old new calls) kept below tt in
         let are : sent.0 ≡ played = append_cancel_left (terminal_state old).batches sent.0 played (sym sent.1 ∙ taken) in
-        let is : sent_batches sent.0 old.output.encoder ≡ sent_sized (sized_at w played) old.output.encoder = ap (λ l. sent_batches l old.output.encoder) are ∙ sym (sized_known w played old.output.encoder same) in (
-          subst (λ (s : Sent). Appends (contents old.output.writer) (contents new.output.writer) s.bytes) is sent.2,
+        let is : sent_batches sent.0 old.sent.encoder ≡ sent_sized (sized_at w played) old.sent.encoder = ap (λ l. sent_batches l old.sent.encoder) are ∙ sym (sized_known w played old.sent.encoder same) in (
+          subst (λ (s : Sent). Appends (contents old.writer) (contents new.writer) s.bytes) is sent.2,
           sent.3 ∙ ap (λ (s : Sent). s.next) is,
-          ap (λ (e : Encoder). e.cols) sent.3 ∙ batches_in sent.0 old.output.encoder ∙ same,
+          ap (λ (e : Encoder). e.cols) sent.3 ∙ batches_in sent.0 old.sent.encoder ∙ same,
         )
 
     -- some batches, then a size, and then others, each of which sets its columns
     sent-then : (xs ys : List SizedBatch) (w v : ℕ) (old reached sized new : AnsiTerminal W) → IsSentAs xs w old reached
-        → Appends (contents reached.output.writer) (contents sized.output.writer) [] → (u : ℕ) × (sized.output.encoder ≡ record reached.output.encoder { cols = u })
+        → Appends (contents reached.writer) (contents sized.writer) [] → (u : ℕ) × (sized.sent.encoder ≡ record reached.sent.encoder { cols = u })
         → ((e : Encoder) (u : ℕ) → sent_sized ys (record e { cols = u }) ≡ sent_sized ys e)
         → IsSentAs ys v sized new → IsSentAs (xs ++ ys) v old new
     sent-then xs ys w v old reached sized new first nothing (u, known) sets later =
-        let begun : Sent = sent_sized xs old.output.encoder in
-        let rest : sent_sized ys sized.output.encoder ≡ sent_sized ys begun.next = ap (sent_sized ys) known ∙ sets reached.output.encoder u ∙ ap (sent_sized ys) first.1 in
-        let all : sent_then begun (sent_sized ys) ≡ sent_sized (xs ++ ys) old.output.encoder = sym (sized_both xs ys old.output.encoder) in (
-          subst (λ (s : Sent). Appends (contents old.output.writer) (contents new.output.writer) s.bytes) all
-              (appends_then (contents old.output.writer) (contents reached.output.writer) (contents new.output.writer) begun.bytes (sent_sized ys begun.next).bytes first.0
-              (appends_then (contents reached.output.writer) (contents sized.output.writer) (contents new.output.writer) [] (sent_sized ys begun.next).bytes nothing
-              (subst (λ (s : Sent). Appends (contents sized.output.writer) (contents new.output.writer) s.bytes) rest later.0))),
+        let begun : Sent = sent_sized xs old.sent.encoder in
+        let rest : sent_sized ys sized.sent.encoder ≡ sent_sized ys begun.next = ap (sent_sized ys) known ∙ sets reached.sent.encoder u ∙ ap (sent_sized ys) first.1 in
+        let all : sent_then begun (sent_sized ys) ≡ sent_sized (xs ++ ys) old.sent.encoder = sym (sized_both xs ys old.sent.encoder) in (
+          subst (λ (s : Sent). Appends (contents old.writer) (contents new.writer) s.bytes) all
+              (appends_then (contents old.writer) (contents reached.writer) (contents new.writer) begun.bytes (sent_sized ys begun.next).bytes first.0
+              (appends_then (contents reached.writer) (contents sized.writer) (contents new.writer) [] (sent_sized ys begun.next).bytes nothing
+              (subst (λ (s : Sent). Appends (contents sized.writer) (contents new.writer) s.bytes) rest later.0))),
           later.1 ∙ ap (λ (s : Sent). s.next) rest ∙ ap (λ (s : Sent). s.next) all,
           later.2,
         )
@@ -249,9 +249,9 @@ module _ {V : Type 0} (rules : HostRules V) where
     -- the run over events from somewhere on
     abbrev SendsFrom : List EventView → Type 0
     SendsFrom events = (cleared : Bool) (s : Progress V) (old new : AnsiTerminal W) (end : List Batch)
-        → s.taken ≡ (terminal_state old).batches ++ clearing cleared → old.output.encoder.cols ≡ s.size.cols
+        → s.taken ≡ (terminal_state old).batches ++ clearing cleared → old.sent.encoder.cols ≡ s.size.cols
         → IsLedAlong terminal_state (Does contents) (λ seen. (run rules seen s).taken) events old new
-        → new.output.failures ≡ old.output.failures → old.output.failures ≢ usize_max
+        → new.sent.failures ≡ old.sent.failures → old.sent.failures ≢ usize_max
         → IsAllTaken (run rules events s) end new
         → SendsStations s.mark (stations_from rules events cleared s) (run rules events s) end old new
 
@@ -287,15 +287,15 @@ module _ {V : Type 0} (rules : HostRules V) where
         let w : ℕ = s.size.cols in
         let batch : Batch = start_of s.mark ++ k.painting.changes in
         let played : List Batch = clearing cleared ++ batch ∷ [] in
-        let up : old.output.failures ≤ reached.output.failures = calls_count contents old reached calls in
+        let up : old.sent.failures ≤ reached.sent.failures = calls_count contents old reached calls in
         let taken : (terminal_state reached).batches ≡ (terminal_state old).batches ++ played =
         is ∙ painted-next k ∙ ap (λ b. b ++ batch ∷ []) base ∙ append_assoc (terminal_state old).batches (clearing cleared) (batch ∷ []) in
         let behind = along_counts contents (λ seen. (run rules seen s).taken) (event ∷ events) reached new (reached, sized, ([], refl), is, sizes, along) in
         let first : IsSentAs (sized_at w played) w old reached = calls-sent w played old reached calls (omega (arith, up, behind, kept)) below taken cols in
         let resized = sized_is contents event s.size reached sized sizes first.2 in
-        let up-sized : reached.output.failures ≤ sized.output.failures = resized.failures in
-        let later : sized.output.failures ≤ new.output.failures = along_counts contents (λ more. (run rules (event ∷ more) s).taken) events sized new along in
-        let same : sized.output.failures ≡ old.output.failures = omega (arith, up, up-sized, later, kept) in
+        let up-sized : reached.sent.failures ≤ sized.sent.failures = resized.failures in
+        let later : sized.sent.failures ≤ new.sent.failures = along_counts contents (λ more. (run rules (event ∷ more) s).taken) events sized new along in
+        let same : sized.sent.failures ≡ old.sent.failures = omega (arith, up, up-sized, later, kept) in
         let r : Ending V = run rules events (next k) in
         let stations : List (Station V) = stations_from rules events (clears k) (next k) in
         let more = rest (clears k) (next k) sized new end (ap (λ b. b ++ clearing (clears k)) (sym (resized.batches ∙ is ∙ painted-next k))) resized.cols

@@ -57,7 +57,7 @@ module _ {V W : Type 0} (rules : HostRules V) (contents : W → Option (List ℕ
       let f : Frame V = reading_frame prompt value old events in
       let sent = sends_from rules contents events false (progress_of begun) old new (closing_if (run_of rules f).mark) (sym (append-nil (terminal_state old).batches)) k.cols along reads.failures k.countable
       (reads.batches, sym reads.left, subst IsAnswer reads.answer_is (answered k.answer)) in (
-        appended (contents old.output.writer) (contents new.output.writer) held (sent_sized (run_sized rules f) old.output.encoder).bytes k.holds sent.0,
+        appended (contents old.writer) (contents new.writer) held (sent_sized (run_sized rules f) old.sent.encoder).bytes k.holds sent.0,
         sent.1,
         sent.2 ∙ ap (λ size. size.cols) (sym reads.size),
       )
@@ -111,7 +111,7 @@ module _ {V : Type 0} (rules : HostRules V) where
         let b : List SizedBatch = since_batches rules earlier (since ++ station ∷ []) in
         let c : List SizedBatch = sized_after last (scenes later) in
         let closing : List SizedBatch = sized_at (run_of rules f).size.cols (closing_if (run_of rules f).mark) in
-        let before : Sent = sent_sized a old.output.encoder in
+        let before : Sent = sent_sized a old.sent.encoder in
         let e : Encoder = record before.next { cols = w } in
         let sent : Sent = sent_batches (map (λ sized. sized.batch) b) e in
         let rest : Sent = sent_sized (c ++ closing) sent.next in
@@ -129,8 +129,8 @@ module _ {V : Type 0} (rules : HostRules V) where
         ap (λ l. sent_sized l e) (uniform h w mark (scenes (since ++ station ∷ [])) sent-at) ∙ sized_known w (map (λ sized. sized.batch) b) e refl in
         let behind : sent_sized (b ++ (c ++ closing)) before.next ≡ sent_then sent (sent_sized (c ++ closing)) =
         sym (since_set mark since station (c ++ closing) before.next w) ∙ sized_both b (c ++ closing) e ∙ ap (λ (s : Sent). sent_then s (sent_sized (c ++ closing))) since_sent in
-        let bytes : (sent_sized (run_sized rules f) old.output.encoder).bytes ≡ before.bytes ++ (sent.bytes ++ rest.bytes) =
-        ap (λ l. (sent_sized l old.output.encoder).bytes) all ∙ ap (λ (s : Sent). s.bytes) (sized_both a (b ++ (c ++ closing)) old.output.encoder)
+        let bytes : (sent_sized (run_sized rules f) old.sent.encoder).bytes ≡ before.bytes ++ (sent.bytes ++ rest.bytes) =
+        ap (λ l. (sent_sized l old.sent.encoder).bytes) all ∙ ap (λ (s : Sent). s.bytes) (sized_both a (b ++ (c ++ closing)) old.sent.encoder)
         ∙ ap (λ (s : Sent). before.bytes ++ s.bytes) behind in
         (rest.bytes, written.0 ∙ ap (λ l. Some (held ++ l)) bytes)
 
@@ -146,7 +146,7 @@ module _ {V : Type 0} (rules : HostRules V) where
         let b : List SizedBatch = since_batches rules earlier (since ++ station ∷ []) in
         let end : List Batch = closing_if (run_of rules f).mark in
         let u : ℕ = (run_of rules f).size.cols in
-        let before : Sent = sent_sized a old.output.encoder in
+        let before : Sent = sent_sized a old.sent.encoder in
         let e : Encoder = record before.next { cols = w } in
         let taken : List Batch = map (λ sized. sized.batch) b in
         let sent : Sent = sent_batches (taken ++ end) e in
@@ -166,7 +166,7 @@ module _ {V : Type 0} (rules : HostRules V) where
         ∙ ap (λ n. sized_at w taken ++ sized_at n end) cols ∙ sym (sized_at-both w taken end) in
         let behind : sent_sized (b ++ sized_at u end) before.next ≡ sent =
         sym (since_set mark since station (sized_at u end) before.next w) ∙ ap (λ l. sent_sized l e) lists ∙ sized_known w (taken ++ end) e refl in
-        let is : sent_sized (run_sized rules f) old.output.encoder ≡ record { bytes = before.bytes ++ sent.bytes; next = sent.next } =
-        ap (λ l. sent_sized l old.output.encoder) all ∙ sized_both a (b ++ sized_at u end) old.output.encoder
+        let is : sent_sized (run_sized rules f) old.sent.encoder ≡ record { bytes = before.bytes ++ sent.bytes; next = sent.next } =
+        ap (λ l. sent_sized l old.sent.encoder) all ∙ sized_both a (b ++ sized_at u end) old.sent.encoder
         ∙ ap (λ (s : Sent). record { bytes = before.bytes ++ s.bytes; next = s.next }) behind in
         (written.0 ∙ ap (λ (s : Sent). Some (held ++ s.bytes)) is, written.1 ∙ ap (λ (s : Sent). s.next) is)

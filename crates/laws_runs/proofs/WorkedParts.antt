@@ -85,26 +85,26 @@ Wrote = List ℕ
 -- once a batch is taken
 abbrev pub with_batch : Batch → AnsiTerminal Wrote → AnsiTerminal Wrote
 with_batch batch t = record t {
-  output = record t.output {
-    writer = t.output.writer ++ (sent_batch batch t.output.encoder).bytes;
-    encoder = (sent_batch batch t.output.encoder).next;
-    batches = t.output.batches ++ batch ∷ [];
+  writer = t.writer ++ (sent_batch batch t.sent.encoder).bytes;
+  sent = record t.sent {
+    encoder = (sent_batch batch t.sent.encoder).next;
+    batches = t.sent.batches ++ batch ∷ [];
   };
 }
 
 -- once its size is set
 abbrev pub with_size : ScreenSize → AnsiTerminal Wrote → AnsiTerminal Wrote
-with_size size t = record t { output = record t.output { encoder = record t.output.encoder { cols = size.cols } }; size = size }
+with_size size t = record t { sent = record t.sent { encoder = record t.sent.encoder { cols = size.cols } }; size = size }
 
 -- once it is flushed
 abbrev pub flushed_now : AnsiTerminal Wrote → AnsiTerminal Wrote
-flushed_now t = record t { output = record t.output { flushed = record t.output.flushed { value = t.output.batches } } }
+flushed_now t = record t { sent = record t.sent { flushed = record t.sent.flushed { value = t.sent.batches } } }
 
 pub takes : (batch : Batch) (t : AnsiTerminal Wrote) → Does Some t (with_batch batch t) (Called (Took batch))
 takes batch t = record { bytes = refl; known = refl; batches = refl; failures = omega arith }
 
 pub is_sized : (size : ScreenSize) (t : AnsiTerminal Wrote) → Does Some t (with_size size t) (Sized size)
-is_sized size t = record { bytes = sym (append-nil t.output.writer); known = refl; batches = sym (append-nil t.output.batches); failures = omega arith }
+is_sized size t = record { bytes = sym (append-nil t.writer); known = refl; batches = sym (append-nil t.sent.batches); failures = omega arith }
 
 pub flushes : (t : AnsiTerminal Wrote) → Does Some t (flushed_now t) (Called Other)
-flushes t = record { bytes = sym (append-nil t.output.writer); known = refl; batches = sym (append-nil t.output.batches); failures = omega arith }
+flushes t = record { bytes = sym (append-nil t.writer); known = refl; batches = sym (append-nil t.sent.batches); failures = omega arith }

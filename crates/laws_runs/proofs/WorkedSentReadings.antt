@@ -64,7 +64,7 @@ before = first_picture characters 4 full
 -- any terminal over a writer that keeps its bytes, and none was written
 module _ (it : AnsiTerminal Wrote) where
   abbrev old : AnsiTerminal Wrote
-  old = record it { output = record it.output { writer = []; encoder = first_known 5; batches = []; failures = 0 }; size = record { rows = 4; cols = 5 } }
+  old = record it { writer = []; sent = record it.sent { encoder = first_known 5; batches = []; failures = 0 }; size = record { rows = 4; cols = 5 } }
 
   abbrev begun : Frame Lines
   begun = fresh_frame prompt [] (terminal_state old)
@@ -161,7 +161,7 @@ module _ (it : AnsiTerminal Wrote) where
   }
 
   -- all that was written
-  written_is : new.output.writer ≡ prompted (to_right (codes "2C") (13 ∷ prompted (codes "ab" ++ to_right (codes "4C") (13 ∷ prompted (codes "ab" ++ to_right (codes "4C") closing_bytes)))))
+  written_is : new.writer ≡ prompted (to_right (codes "2C") (13 ∷ prompted (codes "ab" ++ to_right (codes "4C") (13 ∷ prompted (codes "ab" ++ to_right (codes "4C") closing_bytes)))))
   unfolding pieces column_width painted_on apply destination searched_again search_step boundary_below is_boundary iterate greatest_below least_from unicode_segmentation digits
   written_is = refl
 
@@ -169,7 +169,7 @@ module _ (it : AnsiTerminal Wrote) where
   ended bytes = receive_all characters 4 5 bytes full
 
   -- the law names some bytes, which are those that were written
-  ended_by_law : (bytes : List ℕ) × (new.output.writer ≡ bytes) × ((ended bytes).row ≡ 2) × ((ended bytes).col ≡ 0) × ((ended bytes).cell 2 0 ≡ 32)
+  ended_by_law : (bytes : List ℕ) × (new.writer ≡ bytes) × ((ended bytes).row ≡ 2) × ((ended bytes).col ≡ 0) × ((ended bytes).cell 2 0 ≡ 32)
   unfolding pieces column_width painted_on apply destination searched_again search_step boundary_below is_boundary iterate greatest_below least_from unicode_segmentation
   ended_by_law =
       let closes = closings_are_shown characters rules frame 4 5 (at 0 ∷ at 1 ∷ []) (at 2) [] (first_known 5) full before carries comes (All-nil (RendersNothing rules)) in
@@ -183,16 +183,16 @@ module _ (it : AnsiTerminal Wrote) where
         shown.cells 2 0 (omega arith) (omega arith) ∙ below.blank_below 2 0 (omega (arith, below.row)) (omega arith),
       )
 
-  ended_by_bytes : let last = ended new.output.writer in
+  ended_by_bytes : let last = ended new.writer in
       (last.row ≡ 2) × (last.col ≡ 0) × (last.cell 0 0 ≡ 65) × (last.cell 1 0 ≡ 62) × (last.cell 1 3 ≡ 98) × (last.cell 1 4 ≡ 32) × (last.cell 2 0 ≡ 32)
   unfolding pieces column_width painted_on apply destination searched_again search_step boundary_below is_boundary iterate greatest_below least_from unicode_segmentation digits
   ended_by_bytes = (refl, refl, refl, refl, refl, refl, refl)
 
   -- not a row higher, and no C stands below
-  ended_is_below : (ended new.output.writer).row ≡ 1 → ⊥
+  ended_is_below : (ended new.writer).row ≡ 1 → ⊥
   unfolding pieces column_width painted_on apply destination searched_again search_step boundary_below is_boundary iterate greatest_below least_from unicode_segmentation digits
   ended_is_below higher = let off : 2 ≡ 1 = higher in omega (arith, off)
 
-  ended_is_fresh : (ended new.output.writer).cell 3 0 ≡ 68 → ⊥
+  ended_is_fresh : (ended new.writer).cell 3 0 ≡ 68 → ⊥
   unfolding pieces column_width painted_on apply destination searched_again search_step boundary_below is_boundary iterate greatest_below least_from unicode_segmentation digits
   ended_is_fresh stale = let off : 32 ≡ 68 = stale in omega (arith, off)

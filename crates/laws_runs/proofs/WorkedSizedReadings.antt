@@ -92,7 +92,7 @@ events = Paste (97 ∷ 98 ∷ 99 ∷ 100 ∷ []) ∷ Resized 10 4 ∷ Key (key_p
 -- any terminal over such a writer, a byte written before, four rows of five columns
 module _ (it : AnsiTerminal Wrote) where
   abbrev old : AnsiTerminal Wrote
-  old = record it { output = record it.output { writer = 63 ∷ []; encoder = first_known 5; batches = []; failures = 0 }; size = record { rows = 4; cols = 5 } }
+  old = record it { writer = 63 ∷ []; sent = record it.sent { encoder = first_known 5; batches = []; failures = 0 }; size = record { rows = 4; cols = 5 } }
 
   abbrev begun : Frame Lines
   begun = fresh_frame prompt [] (terminal_state old)
@@ -171,7 +171,7 @@ module _ (it : AnsiTerminal Wrote) where
   }
 
   -- by the law
-  written : new.output.writer ≡ 63 ∷ (sent_sized (run_sized rules (reading_frame prompt [] old events)) (first_known 5)).bytes
+  written : new.writer ≡ 63 ∷ (sent_sized (run_sized rules (reading_frame prompt [] old events)) (first_known 5)).bytes
   written = ap bytes_in (readings_are_sized rules Some prompt [] old new events (63 ∷ []) reading).0
 
   -- the bytes for five columns and then for ten, up to the clearing
@@ -187,12 +187,12 @@ module _ (it : AnsiTerminal Wrote) where
   cancelled_on = 13 ∷ prompted (codes "abcd" ++ to_right (codes "6C") closing_bytes)
 
   -- all that was written
-  written_is : new.output.writer ≡ 63 ∷ before_clearing ++ (clearing_on ++ cancelled_on)
+  written_is : new.writer ≡ 63 ∷ before_clearing ++ (clearing_on ++ cancelled_on)
   unfolding pieces column_width painted_on apply destination searched_again search_step boundary_below is_boundary iterate greatest_below least_from unicode_segmentation digits
   written_is = refl
 
   -- not with a byte less
-  written_is_whole : length new.output.writer ≡ 168 → ⊥
+  written_is_whole : length new.writer ≡ 168 → ⊥
   unfolding pieces column_width painted_on apply destination searched_again search_step boundary_below is_boundary iterate greatest_below least_from unicode_segmentation digits
   written_is_whole less = let off : 169 ≡ 168 = less in omega (arith, off)
 
@@ -204,7 +204,7 @@ module _ (it : AnsiTerminal Wrote) where
   at_five = refl
 
   -- and was not written
-  not_at_five : new.output.writer ≡ 63 ∷ (sent_batches (whole.taken ++ closing_if whole.mark) (first_known 5)).bytes → ⊥
+  not_at_five : new.writer ≡ 63 ∷ (sent_batches (whole.taken ++ closing_if whole.mark) (first_known 5)).bytes → ⊥
   not_at_five same =
       let off : get_or (63 ∷ before_clearing ++ (clearing_on ++ cancelled_on)) 88 0 ≡ 49 = ap (λ bytes. get_or bytes 88 0) (sym written_is ∙ same ∙ ap (λ bytes. 63 ∷ bytes) at_five) in
       let no : 54 ≡ 49 = off in
@@ -317,7 +317,7 @@ module _ (it : AnsiTerminal Wrote) where
     ended bytes = receive_all characters 4 10 bytes anything
 
     -- the law names some bytes, which are those that were written
-    ended_by_law : (bytes : List ℕ) × (new.output.writer ≡ 63 ∷ before_clearing ++ bytes) × ((ended bytes).row ≡ 1) × ((ended bytes).col ≡ 0) × ((ended bytes).cell 1 0 ≡ 32)
+    ended_by_law : (bytes : List ℕ) × (new.writer ≡ 63 ∷ before_clearing ++ bytes) × ((ended bytes).row ≡ 1) × ((ended bytes).col ≡ 0) × ((ended bytes).cell 1 0 ≡ 32)
     unfolding pieces column_width painted_on apply destination searched_again search_step boundary_below is_boundary iterate greatest_below least_from unicode_segmentation digits
     ended_by_law =
         let closes = healed_closings_are_shown characters rules frame 4 10 earlier (at 3 ∷ []) (at 4) [] known anything carries heals_to_end (All-nil (RendersNothing rules)) in

@@ -36,9 +36,9 @@ module _ {V W : Type 0} (rules : HostRules V) (contents : W → Option (List ℕ
     pub answer : Answer
     pub read : IsRead rules before after state (fresh_frame prompt value (terminal_state old)) left (terminal_state new) answer
     pub led : IsLedAsTold (Does contents) before after old new
-    pub countable : old.output.failures ≢ usize_max
-    pub cols : AllByRecursion (λ size. size.cols ≡ old.output.encoder.cols) (sizes_in events)
-    pub holds : contents old.output.writer ≡ Some held
+    pub countable : old.sent.failures ≢ usize_max
+    pub cols : AllByRecursion (λ size. size.cols ≡ old.sent.encoder.cols) (sizes_in events)
+    pub holds : contents old.writer ≡ Some held
 
   -- Where its run takes these batches, all that it has written are their bytes and those of the closing batch, and what
   -- is known of the terminal is known after them: so it shows what a terminal shows of the run.
@@ -46,6 +46,6 @@ module _ {V W : Type 0} (rules : HostRules V) (contents : W → Option (List ℕ
   ReadingsAreSent = (prompt : List ℕ) (value : V) (old new : AnsiTerminal W) (events : List EventView) (held : List ℕ) (batches : List Batch)
       → IsSentReading prompt value old new events held
       → let f = reading_frame prompt value old events in
-      let sent = sent_batches (batches ++ closing_if (run_of rules f).mark) old.output.encoder in
+      let sent = sent_batches (batches ++ closing_if (run_of rules f).mark) old.sent.encoder in
       (run_of rules f).taken ≡ f.terminal.batches ++ batches
-      → (contents new.output.writer ≡ Some (held ++ sent.bytes)) × (new.output.encoder ≡ sent.next)
+      → (contents new.writer ≡ Some (held ++ sent.bytes)) × (new.sent.encoder ≡ sent.next)

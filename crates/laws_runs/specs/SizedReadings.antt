@@ -54,17 +54,17 @@ module _ {V W : Type 0} (rules : HostRules V) (contents : W → Option (List ℕ
     pub answer : Answer
     pub read : IsRead rules before after state (fresh_frame prompt value (terminal_state old)) left (terminal_state new) answer
     pub along : IsToldAlong terminal_state (Does contents) (taken_over rules (fresh_frame prompt value (terminal_state old))) before after old new
-    pub countable : old.output.failures ≢ usize_max
-    pub cols : old.output.encoder.cols ≡ old.size.cols
-    pub holds : contents old.output.writer ≡ Some held
+    pub countable : old.sent.failures ≢ usize_max
+    pub cols : old.sent.encoder.cols ≡ old.size.cols
+    pub holds : contents old.writer ≡ Some held
 
   -- What it has written is what was there, and then the batches of its run, each sent for the columns of its station;
   -- what is known is what is known after them, and the columns are known again.
   abbrev pub ReadingsAreSized : Type 0
   ReadingsAreSized = (prompt : List ℕ) (value : V) (old new : AnsiTerminal W) (events : List EventView) (held : List ℕ)
       → IsSizedReading prompt value old new events held
-      → let sent = sent_sized (run_sized rules (reading_frame prompt value old events)) old.output.encoder in
-      (contents new.output.writer ≡ Some (held ++ sent.bytes)) × (new.output.encoder ≡ sent.next) × (new.output.encoder.cols ≡ new.size.cols)
+      → let sent = sent_sized (run_sized rules (reading_frame prompt value old events)) old.sent.encoder in
+      (contents new.writer ≡ Some (held ++ sent.bytes)) × (new.sent.encoder ≡ sent.next) × (new.sent.encoder.cols ≡ new.size.cols)
 
   -- A changed size is followed from the next clearing on: the bytes of the stations since then, which are sent at w
   -- columns, come after those of the earlier ones, whatever columns these were sent at. Without earlier ones they are
@@ -75,9 +75,9 @@ module _ {V W : Type 0} (rules : HostRules V) (contents : W → Option (List ℕ
       → IsSizedReading prompt value old new events held
       → stations_of rules (reading_frame prompt value old events) ≡ earlier ++ (since ++ station ∷ later)
       → AllByRecursion (IsSentAt h w) (map (sized_scene rules) (since ++ station ∷ []))
-      → let before = sent_sized (stations_sized rules earlier) old.output.encoder in
+      → let before = sent_sized (stations_sized rules earlier) old.sent.encoder in
       let sent = sent_batches (map (λ sized. sized.batch) (since_batches rules earlier (since ++ station ∷ []))) (record before.next { cols = w }) in
-      (rest : List ℕ) × (contents new.output.writer ≡ Some (held ++ (before.bytes ++ (sent.bytes ++ rest))))
+      (rest : List ℕ) × (contents new.writer ≡ Some (held ++ (before.bytes ++ (sent.bytes ++ rest))))
 
   -- Where that station is the last one, only those of the closing batch come after them, and what is known of the
   -- terminal is known after those.
@@ -88,7 +88,7 @@ module _ {V W : Type 0} (rules : HostRules V) (contents : W → Option (List ℕ
       → let f = reading_frame prompt value old events in
       stations_of rules f ≡ earlier ++ (since ++ station ∷ [])
       → AllByRecursion (IsSentAt h w) (map (sized_scene rules) (since ++ station ∷ []))
-      → let before = sent_sized (stations_sized rules earlier) old.output.encoder in
+      → let before = sent_sized (stations_sized rules earlier) old.sent.encoder in
       let taken = map (λ sized. sized.batch) (since_batches rules earlier (since ++ station ∷ [])) in
       let sent = sent_batches (taken ++ closing_if (run_of rules f).mark) (record before.next { cols = w }) in
-      (contents new.output.writer ≡ Some (held ++ (before.bytes ++ sent.bytes))) × (new.output.encoder ≡ sent.next)
+      (contents new.writer ≡ Some (held ++ (before.bytes ++ sent.bytes))) × (new.sent.encoder ≡ sent.next)

@@ -94,26 +94,26 @@ module _ {W : Type 0} (contents : W → Option (List ℕ)) where
   -- ---- failures
 
   -- no deed lowers the count of failures
-  does-counts : (deed : Deed) (old new : AnsiTerminal W) → Does contents old new deed → old.output.failures ≤ new.output.failures
+  does-counts : (deed : Deed) (old new : AnsiTerminal W) → Does contents old new deed → old.sent.failures ≤ new.sent.failures
   does-counts (Called (Took batch)) old new does = does.failures
-  does-counts (Called Refused) old new does = rw does.failures (le_count old.output.failures)
+  does-counts (Called Refused) old new does = rw does.failures (le_count old.sent.failures)
   does-counts (Called Other) old new does = does.failures
   does-counts (Sized size) old new does = does.failures
   does-counts (Said text) old new does = does.failures
 
-  pub use-counts : (deeds : List Deed) (old new : AnsiTerminal W) → Uses (Does contents) deeds old new → old.output.failures ≤ new.output.failures
+  pub use-counts : (deeds : List Deed) (old new : AnsiTerminal W) → Uses (Does contents) deeds old new → old.sent.failures ≤ new.sent.failures
   use-counts [] old new same = rw same (omega arith)
   use-counts (deed ∷ deeds) old new (between, does, uses) =
-      let first : old.output.failures ≤ between.output.failures = does-counts deed old between does in
-      let later : between.output.failures ≤ new.output.failures = use-counts deeds between new uses in
+      let first : old.sent.failures ≤ between.sent.failures = does-counts deed old between does in
+      let later : between.sent.failures ≤ new.sent.failures = use-counts deeds between new uses in
       omega arith
 
   -- none of some deeds is refused, where the count of failures stays after the first one
-  whole-later : (deeds : List Deed) (old between new : AnsiTerminal W) → old.output.failures ≤ between.output.failures
-      → Uses (Does contents) deeds between new → new.output.failures ≡ old.output.failures
-      → (new.output.failures ≡ between.output.failures) × (between.output.failures ≡ old.output.failures)
+  whole-later : (deeds : List Deed) (old between new : AnsiTerminal W) → old.sent.failures ≤ between.sent.failures
+      → Uses (Does contents) deeds between new → new.sent.failures ≡ old.sent.failures
+      → (new.sent.failures ≡ between.sent.failures) × (between.sent.failures ≡ old.sent.failures)
   whole-later deeds old between new first uses same =
-      let later : between.output.failures ≤ new.output.failures = use-counts deeds between new uses in
+      let later : between.sent.failures ≤ new.sent.failures = use-counts deeds between new uses in
       (omega arith, omega arith)
 
   pub failures_are_counted : FailuresAreCounted contents
@@ -123,8 +123,8 @@ module _ {W : Type 0} (contents : W → Option (List ℕ)) where
       failures_are_counted deeds between new uses same.0 (λ full. below (sym same.1 ∙ full))
   failures_are_counted (Called Refused ∷ deeds) old new (between, does, uses) kept below =
       let same = whole-later deeds old between new (does-counts (Called Refused) old between does) uses kept in
-      elim (rose_once old.output.failures between.output.failures does.failures) [
-        | inl rises ↦ absurd (let stays : between.output.failures ≡ old.output.failures = same.1 in omega arith)
+      elim (rose_once old.sent.failures between.sent.failures does.failures) [
+        | inl rises ↦ absurd (let stays : between.sent.failures ≡ old.sent.failures = same.1 in omega arith)
         | inr full ↦ absurd (below full)
       ]
   failures_are_counted (Called Other ∷ deeds) old new (between, does, uses) kept below =
@@ -141,16 +141,16 @@ module _ {W : Type 0} (contents : W → Option (List ℕ)) where
 
   -- the first of some deeds is sent, and then the others
   sent_first : (deed : Deed) (deeds : List Deed) (old between new : AnsiTerminal W) → Sends contents deed old between
-      → Appends (contents between.output.writer) (contents new.output.writer) (sent_by deeds between.output.encoder).bytes
-      × (new.output.encoder ≡ (sent_by deeds between.output.encoder).next)
+      → Appends (contents between.writer) (contents new.writer) (sent_by deeds between.sent.encoder).bytes
+      × (new.sent.encoder ≡ (sent_by deeds between.sent.encoder).next)
       × ((terminal_state new).batches ≡ (terminal_state between).batches ++ batches_by deeds)
-      → Appends (contents old.output.writer) (contents new.output.writer) (sent_by (deed ∷ deeds) old.output.encoder).bytes
-      × (new.output.encoder ≡ (sent_by (deed ∷ deeds) old.output.encoder).next)
+      → Appends (contents old.writer) (contents new.writer) (sent_by (deed ∷ deeds) old.sent.encoder).bytes
+      × (new.sent.encoder ≡ (sent_by (deed ∷ deeds) old.sent.encoder).next)
       × ((terminal_state new).batches ≡ (terminal_state old).batches ++ batches_by (deed ∷ deeds))
   sent_first deed deeds old between new sends later = (
-    appends_then (contents old.output.writer) (contents between.output.writer) (contents new.output.writer) (sent_deed deed old.output.encoder).bytes
-        (sent_by deeds (sent_deed deed old.output.encoder).next).bytes sends.bytes
-        (subst (λ e. Appends (contents between.output.writer) (contents new.output.writer) (sent_by deeds e).bytes) sends.known later.0),
+    appends_then (contents old.writer) (contents between.writer) (contents new.writer) (sent_deed deed old.sent.encoder).bytes
+        (sent_by deeds (sent_deed deed old.sent.encoder).next).bytes sends.bytes
+        (subst (λ e. Appends (contents between.writer) (contents new.writer) (sent_by deeds e).bytes) sends.known later.0),
     later.1 ∙ ap (λ e. (sent_by deeds e).next) sends.known,
     later.2 ∙ ap (λ batches. batches ++ batches_by deeds) sends.batches
         ∙ append_assoc (terminal_state old).batches (batches_by (deed ∷ [])) (batches_by deeds)
@@ -158,7 +158,7 @@ module _ {W : Type 0} (contents : W → Option (List ℕ)) where
   )
 
   pub deeds_are_sent : DeedsAreSent contents
-  deeds_are_sent [] old new same whole = rw same (appends_nothing (contents old.output.writer), refl, sym (append-nil (terminal_state old).batches))
+  deeds_are_sent [] old new same whole = rw same (appends_nothing (contents old.writer), refl, sym (append-nil (terminal_state old).batches))
   deeds_are_sent (Called (Took batch) ∷ deeds) old new (between, does, uses) whole =
       sent_first (Called (Took batch)) deeds old between new does (deeds_are_sent deeds between new uses whole)
   deeds_are_sent (Called Refused ∷ deeds) old new uses whole = absurd (false≢true whole)
@@ -170,10 +170,10 @@ module _ {W : Type 0} (contents : W → Option (List ℕ)) where
       sent_first (Said text) deeds old between new does (deeds_are_sent deeds between new uses whole)
 
   -- a call that writes nothing
-  pub writes_nothing : (old new : AnsiTerminal W) → Keeps (contents old.output.writer) (contents new.output.writer) → new.output.encoder ≡ old.output.encoder
-      → (terminal_state new).batches ≡ (terminal_state old).batches → old.output.failures ≤ new.output.failures → Sends contents (Called Other) old new
+  pub writes_nothing : (old new : AnsiTerminal W) → Keeps (contents old.writer) (contents new.writer) → new.sent.encoder ≡ old.sent.encoder
+      → (terminal_state new).batches ≡ (terminal_state old).batches → old.sent.failures ≤ new.sent.failures → Sends contents (Called Other) old new
   writes_nothing old new keeps known batches failures = record {
-    bytes = kept-nothing (contents old.output.writer) (contents new.output.writer) keeps;
+    bytes = kept-nothing (contents old.writer) (contents new.writer) keeps;
     known = known;
     batches = batches ∙ sym (append-nil (terminal_state old).batches);
     failures = failures;
@@ -182,7 +182,7 @@ module _ {W : Type 0} (contents : W → Option (List ℕ)) where
   -- a call that leaves all as it was
   pub does_nothing : (it : AnsiTerminal W) → Sends contents (Called Other) it it
   does_nothing it = record {
-    bytes = appends_nothing (contents it.output.writer);
+    bytes = appends_nothing (contents it.writer);
     known = refl;
     batches = sym (append-nil (terminal_state it).batches);
     failures = omega arith;
@@ -277,9 +277,9 @@ module _ {W : Type 0} (contents : W → Option (List ℕ)) where
   pub led_is_sent : LedIsSent contents
   led_is_sent events old new (deeds, uses, sizes, texts) kept below same =
       let sent = deeds_are_sent contents deeds old new uses (failures_are_counted contents deeds old new uses kept below) in
-      let is = sent-batches-of deeds old.output.encoder texts (subst (λ all. AreOf old.output.encoder.cols all) (sym sizes) same) in (
+      let is = sent-batches-of deeds old.sent.encoder texts (subst (λ all. AreOf old.sent.encoder.cols all) (sym sizes) same) in (
         batches_by deeds,
         sent.2,
-        subst (λ s. Appends (contents old.output.writer) (contents new.output.writer) s.bytes) is sent.0,
+        subst (λ s. Appends (contents old.writer) (contents new.writer) s.bytes) is sent.0,
         sent.1 ∙ ap (λ s. s.next) is,
       )

@@ -147,22 +147,22 @@ module _ {W : Type 0} (contents : W → Option (List ℕ)) where
 
   -- What a size that an event tells leaves: nothing is written, and of what is known only the columns may be others.
   pub record IsResized (event : EventView) (z : ScreenSize) (old new : AnsiTerminal W) : Type 0 where
-    pub bytes : Appends (contents old.output.writer) (contents new.output.writer) []
-    pub known : (w : ℕ) × (new.output.encoder ≡ record old.output.encoder { cols = w })
-    pub cols : new.output.encoder.cols ≡ (size_after event z).cols
+    pub bytes : Appends (contents old.writer) (contents new.writer) []
+    pub known : (w : ℕ) × (new.sent.encoder ≡ record old.sent.encoder { cols = w })
+    pub cols : new.sent.encoder.cols ≡ (size_after event z).cols
     pub batches : (terminal_state new).batches ≡ (terminal_state old).batches
-    pub failures : old.output.failures ≤ new.output.failures
+    pub failures : old.sent.failures ≤ new.sent.failures
 
-  not_resized : (event : EventView) (z : ScreenSize) (old new : AnsiTerminal W) → new ≡ old → old.output.encoder.cols ≡ (size_after event z).cols → IsResized event z old new
+  not_resized : (event : EventView) (z : ScreenSize) (old new : AnsiTerminal W) → new ≡ old → old.sent.encoder.cols ≡ (size_after event z).cols → IsResized event z old new
   not_resized event z old new same cols = rw same (record {
-    bytes = appends_nothing (contents old.output.writer);
-    known = (old.output.encoder.cols, refl);
+    bytes = appends_nothing (contents old.writer);
+    known = (old.sent.encoder.cols, refl);
     cols = cols;
     batches = refl;
     failures = omega arith;
   })
 
-  pub sized_is : (event : EventView) (z : ScreenSize) (old new : AnsiTerminal W) → IsSizedBy (Does contents) event old new → old.output.encoder.cols ≡ z.cols → IsResized event z old new
+  pub sized_is : (event : EventView) (z : ScreenSize) (old new : AnsiTerminal W) → IsSizedBy (Does contents) event old new → old.sent.encoder.cols ≡ z.cols → IsResized event z old new
   sized_is (Key key) z old new same cols = not_resized (Key key) z old new same cols
   sized_is (Resized cols rows) z old new (between, sends, same) known = rw same (record {
     bytes = sends.bytes;
@@ -175,16 +175,16 @@ module _ {W : Type 0} (contents : W → Option (List ℕ)) where
   sized_is Wake z old new same cols = not_resized Wake z old new same cols
 
   -- calls lower no count of failures
-  pub calls_count : (old new : AnsiTerminal W) → IsLedByCalls (Does contents) old new → old.output.failures ≤ new.output.failures
+  pub calls_count : (old new : AnsiTerminal W) → IsLedByCalls (Does contents) old new → old.sent.failures ≤ new.sent.failures
   calls_count old new calls =
       let led = led_by_calls (Does contents) old new calls in
       use-counts contents led.0 old new led.1
 
   -- nor do events
-  pub along_counts : (taken : List EventView → List Batch) (events : List EventView) (old new : AnsiTerminal W) → IsLedAlong terminal_state (Does contents) taken events old new → old.output.failures ≤ new.output.failures
+  pub along_counts : (taken : List EventView → List Batch) (events : List EventView) (old new : AnsiTerminal W) → IsLedAlong terminal_state (Does contents) taken events old new → old.sent.failures ≤ new.sent.failures
   along_counts taken [] old new calls = calls_count old new calls
   along_counts taken (event ∷ events) old new (reached, sized, calls, is, sizes, later) =
-      let first : old.output.failures ≤ reached.output.failures = calls_count old reached calls in
-      let then : reached.output.failures ≤ sized.output.failures = use-counts contents (map Sized (sizes_in (event ∷ []))) reached sized sizes in
-      let last : sized.output.failures ≤ new.output.failures = along_counts (λ more. taken (event ∷ more)) events sized new later in
+      let first : old.sent.failures ≤ reached.sent.failures = calls_count old reached calls in
+      let then : reached.sent.failures ≤ sized.sent.failures = use-counts contents (map Sized (sizes_in (event ∷ []))) reached sized sizes in
+      let last : sized.sent.failures ≤ new.sent.failures = along_counts (λ more. taken (event ∷ more)) events sized new later in
       omega arith

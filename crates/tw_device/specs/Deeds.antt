@@ -89,15 +89,15 @@ module _ {W : Type 0} (contents : W → Option (List ℕ)) where
   -- The bytes of the deed are appended to what is written, and no other; what is known is what is known after them; and
   -- its batch, if it has one, is the last one taken.
   pub record Sends (deed : Deed) (old new : AnsiTerminal W) : Type 0 where
-    pub bytes : Appends (contents old.output.writer) (contents new.output.writer) (sent_deed deed old.output.encoder).bytes
-    pub known : new.output.encoder ≡ (sent_deed deed old.output.encoder).next
+    pub bytes : Appends (contents old.writer) (contents new.writer) (sent_deed deed old.sent.encoder).bytes
+    pub known : new.sent.encoder ≡ (sent_deed deed old.sent.encoder).next
     pub batches : (terminal_state new).batches ≡ (terminal_state old).batches ++ batches_by (deed ∷ [])
-    pub failures : old.output.failures ≤ new.output.failures
+    pub failures : old.sent.failures ≤ new.sent.failures
 
   -- A batch is refused, which is counted. What is written is not told, and what is known is as before.
   pub record FailsToSend (old new : AnsiTerminal W) : Type 0 where
-    pub known : new.output.encoder ≡ old.output.encoder
-    pub failures : new.output.failures ≡ count_up old.output.failures
+    pub known : new.sent.encoder ≡ old.sent.encoder
+    pub failures : new.sent.failures ≡ count_up old.sent.failures
 
   -- such a deed leads from the one to the other
   abbrev pub Does : AnsiTerminal W → AnsiTerminal W → Deed → Type 0
@@ -111,21 +111,21 @@ module _ {W : Type 0} (contents : W → Option (List ℕ)) where
   -- what is known after them; and the batches are those that were there, and then those that the deeds took.
   abbrev pub DeedsAreSent : Type 0
   DeedsAreSent = (deeds : List Deed) (old new : AnsiTerminal W) → Uses Does deeds old new → none_refused deeds ≡ true
-      → Appends (contents old.output.writer) (contents new.output.writer) (sent_by deeds old.output.encoder).bytes
-      × (new.output.encoder ≡ (sent_by deeds old.output.encoder).next)
+      → Appends (contents old.writer) (contents new.writer) (sent_by deeds old.sent.encoder).bytes
+      × (new.sent.encoder ≡ (sent_by deeds old.sent.encoder).next)
       × ((terminal_state new).batches ≡ (terminal_state old).batches ++ batches_by deeds)
 
   -- None was refused where no failure was counted, and one could have been.
   abbrev pub FailuresAreCounted : Type 0
   FailuresAreCounted = (deeds : List Deed) (old new : AnsiTerminal W) → Uses Does deeds old new
-      → new.output.failures ≡ old.output.failures → old.output.failures ≢ usize_max → none_refused deeds ≡ true
+      → new.sent.failures ≡ old.sent.failures → old.sent.failures ≢ usize_max → none_refused deeds ≡ true
 
   -- Where no failure was counted, and one could have been, and no event told another number of columns, what was
   -- written is what was there, and then the bytes of the batches that were taken since.
   abbrev pub LedIsSent : Type 0
   LedIsSent = (events : List EventView) (old new : AnsiTerminal W) → IsLedBy Does events old new
-      → new.output.failures ≡ old.output.failures → old.output.failures ≢ usize_max
-      → AllByRecursion (λ size. size.cols ≡ old.output.encoder.cols) (sizes_in events)
+      → new.sent.failures ≡ old.sent.failures → old.sent.failures ≢ usize_max
+      → AllByRecursion (λ size. size.cols ≡ old.sent.encoder.cols) (sizes_in events)
       → (batches : List Batch) × ((terminal_state new).batches ≡ (terminal_state old).batches ++ batches)
-      × Appends (contents old.output.writer) (contents new.output.writer) (sent_batches batches old.output.encoder).bytes
-      × (new.output.encoder ≡ (sent_batches batches old.output.encoder).next)
+      × Appends (contents old.writer) (contents new.writer) (sent_batches batches old.sent.encoder).bytes
+      × (new.sent.encoder ≡ (sent_batches batches old.sent.encoder).next)

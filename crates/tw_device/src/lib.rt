@@ -15,7 +15,7 @@
 //! ```
 #![tactic(auto)]
 
-mod batch_writer;
+mod batch_record;
 mod device;
 mod escape;
 mod event_log;
@@ -27,7 +27,7 @@ mod terminal;
 mod typed;
 mod unread;
 
-pub use batch_writer::{BatchWriter, encode_batch};
+pub use batch_record::{BatchRecord, encode_batch, write_text};
 pub use device::DeviceTerminal;
 pub use escape::Escape;
 pub use event_log::EventLog;

@@ -12,7 +12,7 @@ ghost use Rattle.tw_terminal.specs.declared.terminal.TerminalFault.TheVariants.{
 ghost use Rattle.tw_device.specs.Deeds.{Called, Does, Said, Sized};
 ghost use Rattle.tw_device.specs.Terminal.{terminal_state};
 
-use crate::batch_writer::{BatchWriter, encode_batch};
+use crate::batch_record::{BatchRecord, encode_batch, write_text};
 use crate::device::DeviceTerminal;
 use std::alloc::Global;
 use std::io::Write;
@@ -24,34 +24,35 @@ use tw_terminal::{ScreenSize, Terminal, TerminalFault};
 #[derive(Drop)]
 pub struct AnsiTerminal<W> {
     alloc: Global,
+    writer: W,
     size: ScreenSize,
-    output: BatchWriter<W>,
+    sent: BatchRecord,
 }
 
 impl<W: Write> AnsiTerminal<W> {
     /// Creates a terminal of this size, whose cursor stands in column 0.
     pub fn new(alloc: Global, writer: W, size: ScreenSize) -> Self
         ensures state { terminal_state result ≡ fresh_terminal size [] }
-        ensures known { result.output.encoder ≡ first_known size.cols }
-        ensures writer { result.output.writer ≡ writer }
+        ensures known { result.sent.encoder ≡ first_known size.cols }
+        ensures writer { result.writer ≡ writer }
     {
-        let output = BatchWriter::new(writer, size.cols);
         AnsiTerminal {
             alloc,
+            writer,
             size,
-            output,
+            sent: BatchRecord::new(size.cols),
         }
     }
 
     /// Sets the size, which nothing else changes.
     pub fn set_screen_size(&mut self, size: ScreenSize)
         ensures state { terminal_state self.new ≡ record (terminal_state self.old) { size = size } }
-        ensures known { self.new.output.encoder
-            ≡ record self.old.output.encoder { cols = size.cols } }
-        ensures writer { self.new.output.writer ≡ self.old.output.writer }
+        ensures known { self.new.sent.encoder
+            ≡ record self.old.sent.encoder { cols = size.cols } }
+        ensures writer { self.new.writer ≡ self.old.writer }
         ensures sized { Does W.contents self.old self.new (Sized size) }
     {
-        self.output.encoder.set_cols(size.cols);
+        self.sent.encoder.set_cols(size.cols);
         self.size = size;
     }
 
@@ -59,11 +60,11 @@ impl<W: Write> AnsiTerminal<W> {
     /// has to leave the cursor in column 0, and no attribute set. A refusal may have sent a beginning.
     pub fn send(&mut self, text: &str) -> Result<(), TerminalFault>
         ensures kept { terminal_state self.new ≡ terminal_state self.old }
-        ensures known { OnErr result (self.new.output.encoder ≡ self.old.output.encoder) }
+        ensures known { OnErr result (self.new.sent.encoder ≡ self.old.sent.encoder) }
         ensures said { OnOk result (Does W.contents self.old self.new (Said text.now)) }
     {
-        let encoder = self.output.encoder;
-        self.output.send(encoder, text)
+        let encoder = self.sent.encoder;
+        self.sent.send(&mut self.writer, encoder, text)
     }
 
     /// Sends a batch. A refusal changes nothing but what is written.
@@ -73,15 +74,15 @@ impl<W: Write> AnsiTerminal<W> {
         ensures took { OnOk result (Does W.contents self.old self.new
             (Called (Took (batch_view changes.now)))) }
         ensures err { OnErr result (self.new ≡ record self.old {
-          output = record self.old.output { writer = self.new.output.writer };
+          writer = self.new.writer;
         }) }
-        ensures unsent { IfErr result (λ fault. fault ≡ Memory → self.new.output.writer
-            ≡ self.old.output.writer) }
+        ensures unsent { IfErr result (λ fault. fault ≡ Memory → self.new.writer
+            ≡ self.old.writer) }
     {
         let mut text = String::new(self.alloc);
-        let encoder = encode_batch(changes, self.output.encoder, &mut text)?;
-        self.output.write(text.as_str())?;
-        self.output.take(changes, encoder);
+        let encoder = encode_batch(changes, self.sent.encoder, &mut text)?;
+        write_text(&mut self.writer, text.as_str())?;
+        self.sent.take(changes, encoder);
         Ok(())
     }
 }
@@ -119,23 +120,23 @@ impl<W: Write> Terminal for AnsiTerminal<W> {
         ensures took { OnOk result (Does W.contents self.old self.new
             (Called (Took (batch_view changes.now)))) }
         ensures refused { OnErr result (Does W.contents self.old self.new (Called BatchRefused)) }
-        ensures unsent { IfErr result (λ fault. fault ≡ Memory → self.new.output.writer
-            ≡ self.old.output.writer) }
+        ensures unsent { IfErr result (λ fault. fault ≡ Memory → self.new.writer
+            ≡ self.old.writer) }
     {
         let sent = self.put(changes);
-        self.output.counted(sent)
+        self.sent.counted(sent)
     }
 
     /// Flushes the writer, to which it adds no byte.
     fn flush(&mut self) -> Result<(), TerminalFault>
         ensures ok { OnOk result (Flushes (terminal_state self.old) (terminal_state self.new)) }
         ensures err { OnErr result (Fails (terminal_state self.old) (terminal_state self.new)) }
-        ensures known { self.new.output.encoder ≡ self.old.output.encoder }
-        ensures writer { Keeps (W.contents self.old.output.writer)
-            (W.contents self.new.output.writer) }
+        ensures known { self.new.sent.encoder ≡ self.old.sent.encoder }
+        ensures writer { Keeps (W.contents self.old.writer)
+            (W.contents self.new.writer) }
         ensures follows { Does W.contents self.old self.new (Called Other) }
     {
-        self.output.flush()
+        self.sent.flush(&mut self.writer)
     }
 }
 

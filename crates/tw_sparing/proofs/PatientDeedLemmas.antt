@@ -18,27 +18,27 @@ use Rattle.tw_sparing.proofs.GroupLemmas.{all_changes-both, changes_among-both, 
 
 module _ {W : Type 0} (contents : W → Option (List ℕ)) where
   -- no deed lowers the count of failures
-  counts_on : (deed : Deed) (old new : PatientTerminal W) → DoesPatiently contents old new deed → old.output.failures ≤ new.output.failures
+  counts_on : (deed : Deed) (old new : PatientTerminal W) → DoesPatiently contents old new deed → old.sent.failures ≤ new.sent.failures
   counts_on (Called (Took batch)) old new does = rw does.failures (omega arith)
-  counts_on (Called Refused) old new does = rw does.failures (le_count old.output.failures)
+  counts_on (Called Refused) old new does = rw does.failures (le_count old.sent.failures)
   counts_on (Called Other) old new does = does.failures
   counts_on (Sized size) old new does = rw does.failures (omega arith)
   counts_on (Said text) old new does = rw does.failures (omega arith)
 
-  uses_count_on : (deeds : List Deed) (old new : PatientTerminal W) → Uses (DoesPatiently contents) deeds old new → old.output.failures ≤ new.output.failures
+  uses_count_on : (deeds : List Deed) (old new : PatientTerminal W) → Uses (DoesPatiently contents) deeds old new → old.sent.failures ≤ new.sent.failures
   uses_count_on [] old new same = rw same (omega arith)
   uses_count_on (deed ∷ deeds) old new (between, does, uses) =
-      let first : old.output.failures ≤ between.output.failures = counts_on deed old between does in
-      let later : between.output.failures ≤ new.output.failures = uses_count_on deeds between new uses in
+      let first : old.sent.failures ≤ between.sent.failures = counts_on deed old between does in
+      let later : between.sent.failures ≤ new.sent.failures = uses_count_on deeds between new uses in
       omega arith
 
   -- where the count of failures stays, it stays after the first deed
   stays_on : (deed : Deed) (deeds : List Deed) (old between new : PatientTerminal W) → DoesPatiently contents old between deed
-      → Uses (DoesPatiently contents) deeds between new → new.output.failures ≡ old.output.failures
-      → (new.output.failures ≡ between.output.failures) × (between.output.failures ≡ old.output.failures)
+      → Uses (DoesPatiently contents) deeds between new → new.sent.failures ≡ old.sent.failures
+      → (new.sent.failures ≡ between.sent.failures) × (between.sent.failures ≡ old.sent.failures)
   stays_on deed deeds old between new does uses same =
-      let first : old.output.failures ≤ between.output.failures = counts_on deed old between does in
-      let later : between.output.failures ≤ new.output.failures = uses_count_on deeds between new uses in
+      let first : old.sent.failures ≤ between.sent.failures = counts_on deed old between does in
+      let later : between.sent.failures ≤ new.sent.failures = uses_count_on deeds between new uses in
       (omega arith, omega arith)
 
   -- nothing
@@ -47,16 +47,16 @@ module _ {W : Type 0} (contents : W → Option (List ℕ)) where
     taken = sym (append-nil (patient_state it).batches);
     changes = append-nil (changes_among it.ahead.kept);
     known = tt;
-    bytes = appends_nothing (contents it.output.writer);
+    bytes = appends_nothing (contents it.writer);
     next = refl;
     shown = refl;
   }
 
   -- groups are sent, and then others: by what is known between them
   sent_after : (first then : List KnownBatch) (taken more : List Batch) (old between new : PatientTerminal W)
-      → AreKnownSince old.ahead.size old.ahead.shown old.output.encoder first
-      → Appends (contents old.output.writer) (contents between.output.writer) (sent_for_all old.ahead.size.rows old.ahead.shown first old.output.encoder).bytes
-      → between.output.encoder ≡ (sent_for_all old.ahead.size.rows old.ahead.shown first old.output.encoder).next
+      → AreKnownSince old.ahead.size old.ahead.shown old.sent.encoder first
+      → Appends (contents old.writer) (contents between.writer) (sent_for_all old.ahead.size.rows old.ahead.shown first old.sent.encoder).bytes
+      → between.sent.encoder ≡ (sent_for_all old.ahead.size.rows old.ahead.shown first old.sent.encoder).next
       → between.ahead.size ≡ old.ahead.size → between.ahead.shown ≡ last_known old.ahead.shown first
       → (patient_state between).batches ≡ (patient_state old).batches ++ taken
       → changes_among old.ahead.kept ++ all_changes taken ≡ changes_among first ++ changes_among between.ahead.kept
@@ -65,11 +65,11 @@ module _ {W : Type 0} (contents : W → Option (List ℕ)) where
       let kept = changes_among old.ahead.kept in
       let between_kept = changes_among between.ahead.kept in
       let new_kept = changes_among new.ahead.kept in
-      let later_known : AreKnownSince old.ahead.size (last_known old.ahead.shown first) (sent_for_all old.ahead.size.rows old.ahead.shown first old.output.encoder).next then =
+      let later_known : AreKnownSince old.ahead.size (last_known old.ahead.shown first) (sent_for_all old.ahead.size.rows old.ahead.shown first old.sent.encoder).next then =
       rw (size, shown, next) at later.known in
-      let later_bytes : Appends (contents between.output.writer) (contents new.output.writer) (sent_for_all old.ahead.size.rows (last_known old.ahead.shown first) then (sent_for_all old.ahead.size.rows old.ahead.shown first old.output.encoder).next).bytes =
+      let later_bytes : Appends (contents between.writer) (contents new.writer) (sent_for_all old.ahead.size.rows (last_known old.ahead.shown first) then (sent_for_all old.ahead.size.rows old.ahead.shown first old.sent.encoder).next).bytes =
       rw (size, shown, next) at later.bytes in
-      let later_next : new.output.encoder ≡ (sent_for_all old.ahead.size.rows (last_known old.ahead.shown first) then (sent_for_all old.ahead.size.rows old.ahead.shown first old.output.encoder).next).next =
+      let later_next : new.sent.encoder ≡ (sent_for_all old.ahead.size.rows (last_known old.ahead.shown first) then (sent_for_all old.ahead.size.rows old.ahead.shown first old.sent.encoder).next).next =
       rw (size, shown, next) at later.next in
       record {
         taken = later.taken ∙ ap (λ xs. xs ++ more) batches ∙ append_assoc (patient_state old).batches taken more;
@@ -80,10 +80,10 @@ module _ {W : Type 0} (contents : W → Option (List ℕ)) where
             ∙ ap (λ xs. changes_among first ++ xs) later.changes
             ∙ sym (append_assoc (changes_among first) (changes_among then) new_kept)
             ∙ ap (λ xs. xs ++ new_kept) (sym (changes_among-both first then));
-        known = known_since-both old.ahead.size old.ahead.shown old.output.encoder first then known later_known;
-        bytes = subst (λ xs. Appends (contents old.output.writer) (contents new.output.writer) xs) (sym (sent_bytes-both old.ahead.size.rows old.ahead.shown first then old.output.encoder))
-            (appends_then (contents old.output.writer) (contents between.output.writer) (contents new.output.writer) _ _ bytes later_bytes);
-        next = later_next ∙ sym (sent_next-both old.ahead.size.rows old.ahead.shown first then old.output.encoder);
+        known = known_since-both old.ahead.size old.ahead.shown old.sent.encoder first then known later_known;
+        bytes = subst (λ xs. Appends (contents old.writer) (contents new.writer) xs) (sym (sent_bytes-both old.ahead.size.rows old.ahead.shown first then old.sent.encoder))
+            (appends_then (contents old.writer) (contents between.writer) (contents new.writer) _ _ bytes later_bytes);
+        next = later_next ∙ sym (sent_next-both old.ahead.size.rows old.ahead.shown first then old.sent.encoder);
         shown = later.shown ∙ ap (λ known. last_known known then) shown ∙ sym (last_known-both old.ahead.shown first then);
       }
 
@@ -93,7 +93,7 @@ module _ {W : Type 0} (contents : W → Option (List ℕ)) where
       → IsSentPatiently contents groups more between new → IsSentPatiently contents groups (batch ∷ more) old new
   kept_then batch groups more old between new keeps batches later =
       sent_after [] groups (batch ∷ []) more old between new tt
-      (subst (λ w. Appends (contents old.output.writer) (contents w) []) (sym keeps.writer) (appends_nothing (contents old.output.writer)))
+      (subst (λ w. Appends (contents old.writer) (contents w) []) (sym keeps.writer) (appends_nothing (contents old.writer)))
       keeps.encoder
       (ap (λ (ahead : AheadView). ahead.size) keeps.ahead)
       (ap (λ (ahead : AheadView). ahead.shown) keeps.ahead)
@@ -139,8 +139,8 @@ module _ {W : Type 0} (contents : W → Option (List ℕ)) where
       later
 
   -- deeds that give no size and send no text, of which no failure was counted
-  all_sent_ahead : (deeds : List Deed) (old new : PatientTerminal W) → Uses (DoesPatiently contents) deeds old new → new.output.failures ≡ old.output.failures
-      → old.output.failures ≢ usize_max → sizes_by deeds ≡ [] → texts_by deeds ≡ []
+  all_sent_ahead : (deeds : List Deed) (old new : PatientTerminal W) → Uses (DoesPatiently contents) deeds old new → new.sent.failures ≡ old.sent.failures
+      → old.sent.failures ≢ usize_max → sizes_by deeds ≡ [] → texts_by deeds ≡ []
       → (groups : List KnownBatch) × (batches : List Batch) × IsSentPatiently contents groups batches old new
   all_sent_ahead [] old new same kept below sizes texts = ([], [], rw same (none_sent_ahead old))
   all_sent_ahead (Called (Took batch) ∷ deeds) old new (between, does, uses) kept below sizes texts =
@@ -150,8 +150,8 @@ module _ {W : Type 0} (contents : W → Option (List ℕ)) where
       (all.0, batch ∷ later.1, all.1)
   all_sent_ahead (Called Refused ∷ deeds) old new (between, does, uses) kept below sizes texts =
       let same = stays_on (Called Refused) deeds old between new does uses kept in
-      elim (rose_once old.output.failures between.output.failures does.failures) [
-        | inl rises ↦ absurd (let stays : between.output.failures ≡ old.output.failures = same.1 in omega arith)
+      elim (rose_once old.sent.failures between.sent.failures does.failures) [
+        | inl rises ↦ absurd (let stays : between.sent.failures ≡ old.sent.failures = same.1 in omega arith)
         | inr full ↦ absurd (below full)
       ]
   all_sent_ahead (Called Other ∷ deeds) old new (between, does, uses) kept below sizes texts =

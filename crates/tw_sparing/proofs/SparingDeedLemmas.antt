@@ -17,26 +17,26 @@ use Rattle.tw_sparing.specs.Terminal.{sparing_state}
 
 module _ {W : Type 0} (contents : W → Option (List ℕ)) where
   -- no deed lowers the count of failures
-  does_count : (deed : Deed) (old new : SparingTerminal W) → DoesSparingly contents old new deed → old.output.failures ≤ new.output.failures
+  does_count : (deed : Deed) (old new : SparingTerminal W) → DoesSparingly contents old new deed → old.sent.failures ≤ new.sent.failures
   does_count (Called (Took batch)) old new does = does.failures
-  does_count (Called Refused) old new does = rw does.failures (le_count old.output.failures)
+  does_count (Called Refused) old new does = rw does.failures (le_count old.sent.failures)
   does_count (Called Other) old new does = does.failures
   does_count (Sized size) old new does = does.failures
   does_count (Said text) old new does = does.failures
 
-  use_counts : (deeds : List Deed) (old new : SparingTerminal W) → Uses (DoesSparingly contents) deeds old new → old.output.failures ≤ new.output.failures
+  use_counts : (deeds : List Deed) (old new : SparingTerminal W) → Uses (DoesSparingly contents) deeds old new → old.sent.failures ≤ new.sent.failures
   use_counts [] old new same = rw same (omega arith)
   use_counts (deed ∷ deeds) old new (between, does, uses) =
-      let first : old.output.failures ≤ between.output.failures = does_count deed old between does in
-      let later : between.output.failures ≤ new.output.failures = use_counts deeds between new uses in
+      let first : old.sent.failures ≤ between.sent.failures = does_count deed old between does in
+      let later : between.sent.failures ≤ new.sent.failures = use_counts deeds between new uses in
       omega arith
 
   -- where the count of failures stays, it stays after the first deed
-  stays_later : (deeds : List Deed) (old between new : SparingTerminal W) → old.output.failures ≤ between.output.failures
-      → Uses (DoesSparingly contents) deeds between new → new.output.failures ≡ old.output.failures
-      → (new.output.failures ≡ between.output.failures) × (between.output.failures ≡ old.output.failures)
+  stays_later : (deeds : List Deed) (old between new : SparingTerminal W) → old.sent.failures ≤ between.sent.failures
+      → Uses (DoesSparingly contents) deeds between new → new.sent.failures ≡ old.sent.failures
+      → (new.sent.failures ≡ between.sent.failures) × (between.sent.failures ≡ old.sent.failures)
   stays_later deeds old between new first uses same =
-      let later : between.output.failures ≤ new.output.failures = use_counts deeds between new uses in
+      let later : between.sent.failures ≤ new.sent.failures = use_counts deeds between new uses in
       (omega arith, omega arith)
 
   -- nothing
@@ -44,7 +44,7 @@ module _ {W : Type 0} (contents : W → Option (List ℕ)) where
   none_sent it = record {
     batches = sym (append-nil (sparing_state it).batches);
     known = tt;
-    bytes = appends_nothing (contents it.output.writer);
+    bytes = appends_nothing (contents it.writer);
     next = refl;
     shown = refl;
   }
@@ -60,7 +60,7 @@ module _ {W : Type 0} (contents : W → Option (List ℕ)) where
   sent_other calls old between new sends later = record {
     batches = later.batches ∙ ap (λ batches. batches ++ batches_among calls) (sends.batches ∙ append-nil (sparing_state old).batches);
     known = known_at calls sends.size sends.shown sends.known later.known;
-    bytes = appends_then (contents old.output.writer) (contents between.output.writer) (contents new.output.writer) [] _ sends.bytes
+    bytes = appends_then (contents old.writer) (contents between.writer) (contents new.writer) [] _ sends.bytes
         (rw (sends.size, sends.shown, sends.known) at later.bytes);
     next = rw (sends.size, sends.shown, sends.known) at later.next;
     shown = later.shown ∙ ap (λ shown. last_known shown calls) sends.shown;
@@ -77,15 +77,15 @@ module _ {W : Type 0} (contents : W → Option (List ℕ)) where
     batches = later.batches ∙ ap (λ batches. batches ++ batches_among calls) sends.batches
         ∙ append_assoc (sparing_state old).batches (batch ∷ []) (batches_among calls);
     known = (sends.shown.0, sends.shown.1, known_at calls sends.size refl sends.known later.known);
-    bytes = appends_then (contents old.output.writer) (contents between.output.writer) (contents new.output.writer) _ _ sends.bytes
+    bytes = appends_then (contents old.writer) (contents between.writer) (contents new.writer) _ _ sends.bytes
         (rw (sends.size, sends.known) at later.bytes);
     next = rw (sends.size, sends.known) at later.next;
     shown = later.shown;
   }
 
   -- deeds that give no size and send no text, of which no failure was counted
-  all_sent : (deeds : List Deed) (old new : SparingTerminal W) → Uses (DoesSparingly contents) deeds old new → new.output.failures ≡ old.output.failures
-      → old.output.failures ≢ usize_max → sizes_by deeds ≡ [] → texts_by deeds ≡ [] → (calls : List KnownBatch) × IsSentSparingly contents calls old new
+  all_sent : (deeds : List Deed) (old new : SparingTerminal W) → Uses (DoesSparingly contents) deeds old new → new.sent.failures ≡ old.sent.failures
+      → old.sent.failures ≢ usize_max → sizes_by deeds ≡ [] → texts_by deeds ≡ [] → (calls : List KnownBatch) × IsSentSparingly contents calls old new
   all_sent [] old new same kept below sizes texts = ([], rw same (none_sent old))
   all_sent (Called (Took batch) ∷ deeds) old new (between, does, uses) kept below sizes texts =
       let same = stays_later deeds old between new does.failures uses kept in
@@ -93,8 +93,8 @@ module _ {W : Type 0} (contents : W → Option (List ℕ)) where
       (taken batch between ∷ later.0, sent_batch_then batch later.0 old between new does later.1)
   all_sent (Called Refused ∷ deeds) old new (between, does, uses) kept below sizes texts =
       let same = stays_later deeds old between new (does_count (Called Refused) old between does) uses kept in
-      elim (rose_once old.output.failures between.output.failures does.failures) [
-        | inl rises ↦ absurd (let stays : between.output.failures ≡ old.output.failures = same.1 in omega arith)
+      elim (rose_once old.sent.failures between.sent.failures does.failures) [
+        | inl rises ↦ absurd (let stays : between.sent.failures ≡ old.sent.failures = same.1 in omega arith)
         | inr full ↦ absurd (below full)
       ]
   all_sent (Called Other ∷ deeds) old new (between, does, uses) kept below sizes texts =

@@ -19,17 +19,17 @@ module _ {W : Type 0} (contents : W → Option (List ℕ)) where
   -- by this batch, and after what is shown by all that is kept back.
   pub record KeepsBack (batch : Batch) (old new : PatientTerminal W) : Type 0 where
     pub more : old.is_more ≡ true
-    pub writer : new.output.writer ≡ old.output.writer
-    pub encoder : new.output.encoder ≡ old.output.encoder
+    pub writer : new.writer ≡ old.writer
+    pub encoder : new.sent.encoder ≡ old.sent.encoder
     pub known : IsKnownAfter old.ahead.size.cols old.ahead.size.rows batch (latest_known old.ahead) (latest_known new.ahead)
     pub joined : IsJoined batch old.ahead (latest_known new.ahead)
     pub ahead : new.ahead ≡ record old.ahead { kept = joined_group batch old.ahead (latest_known new.ahead) ∷ [] }
 
   -- Groups are sent, each known after the one before, and nothing is kept back any more.
   pub record SendsGroups (groups : List KnownBatch) (old new : PatientTerminal W) : Type 0 where
-    pub known : AreKnownSince old.ahead.size old.ahead.shown old.output.encoder groups
-    pub bytes : Appends (contents old.output.writer) (contents new.output.writer) (sent_for_all old.ahead.size.rows old.ahead.shown groups old.output.encoder).bytes
-    pub encoder : new.output.encoder ≡ (sent_for_all old.ahead.size.rows old.ahead.shown groups old.output.encoder).next
+    pub known : AreKnownSince old.ahead.size old.ahead.shown old.sent.encoder groups
+    pub bytes : Appends (contents old.writer) (contents new.writer) (sent_for_all old.ahead.size.rows old.ahead.shown groups old.sent.encoder).bytes
+    pub encoder : new.sent.encoder ≡ (sent_for_all old.ahead.size.rows old.ahead.shown groups old.sent.encoder).next
     pub ahead : new.ahead ≡ settled_at old.ahead.size (last_known old.ahead.shown groups)
 
   -- A batch is sent: in one group with what was kept back, or after it. No more is at hand, or no difference takes all
@@ -48,42 +48,42 @@ module _ {W : Type 0} (contents : W → Option (List ℕ)) where
     pub taken : IsTakenPatiently batch old new
     pub more : new.is_more ≡ old.is_more
     pub batches : (patient_state new).batches ≡ (patient_state old).batches ++ batch ∷ []
-    pub failures : new.output.failures ≡ old.output.failures
+    pub failures : new.sent.failures ≡ old.sent.failures
 
   -- A batch is refused, which is counted. What is written is not told, it is not known what is shown and in which
   -- column the cursor stands, what was kept back is lost, and the next batch is sent.
   pub record FailsPatiently (old new : PatientTerminal W) : Type 0 where
-    pub encoder : new.output.encoder ≡ old.output.encoder
+    pub encoder : new.sent.encoder ≡ old.sent.encoder
     pub ahead : new.ahead ≡ settled_at old.ahead.size None
     pub start : new.at_start ≡ false
     pub more : new.is_more ≡ false
     pub batches : (patient_state new).batches ≡ (patient_state old).batches
-    pub failures : new.output.failures ≡ count_up old.output.failures
+    pub failures : new.sent.failures ≡ count_up old.sent.failures
 
   -- no byte is written, and all stays but whether more is at hand, and what is counted
   pub record RestsPatiently (old new : PatientTerminal W) : Type 0 where
-    pub bytes : Appends (contents old.output.writer) (contents new.output.writer) []
-    pub encoder : new.output.encoder ≡ old.output.encoder
+    pub bytes : Appends (contents old.writer) (contents new.writer) []
+    pub encoder : new.sent.encoder ≡ old.sent.encoder
     pub ahead : new.ahead ≡ old.ahead
     pub batches : (patient_state new).batches ≡ (patient_state old).batches
-    pub failures : old.output.failures ≤ new.output.failures
+    pub failures : old.sent.failures ≤ new.sent.failures
 
   -- A size is told. What was kept back is sent first, or it is lost; and then it is not known what is shown.
   pub record SizesPatiently (size : ScreenSize) (old new : PatientTerminal W) : Type 0 where
-    pub sends : (Appends (contents old.output.writer) (contents new.output.writer) (sent_ahead old.ahead old.output.encoder).bytes
-        × (new.output.encoder ≡ record (sent_ahead old.ahead old.output.encoder).next { cols = size.cols }))
-        ⊎ ((old.ahead.kept ≡ [] → ⊥) × (new.output.encoder ≡ record old.output.encoder { cols = size.cols }))
+    pub sends : (Appends (contents old.writer) (contents new.writer) (sent_ahead old.ahead old.sent.encoder).bytes
+        × (new.sent.encoder ≡ record (sent_ahead old.ahead old.sent.encoder).next { cols = size.cols }))
+        ⊎ ((old.ahead.kept ≡ [] → ⊥) × (new.sent.encoder ≡ record old.sent.encoder { cols = size.cols }))
     pub ahead : new.ahead ≡ settled_at size None
     pub batches : (patient_state new).batches ≡ (patient_state old).batches
-    pub failures : new.output.failures ≡ old.output.failures
+    pub failures : new.sent.failures ≡ old.sent.failures
 
   -- A text is sent: what was kept back, and then what is sent for the text. It is not known then what is shown.
   pub record SaysPatiently (text : List ℕ) (old new : PatientTerminal W) : Type 0 where
-    pub bytes : Appends (contents old.output.writer) (contents new.output.writer) (sent_then (sent_ahead old.ahead old.output.encoder) (sent_deed (Said text))).bytes
-    pub encoder : new.output.encoder ≡ (sent_then (sent_ahead old.ahead old.output.encoder) (sent_deed (Said text))).next
+    pub bytes : Appends (contents old.writer) (contents new.writer) (sent_then (sent_ahead old.ahead old.sent.encoder) (sent_deed (Said text))).bytes
+    pub encoder : new.sent.encoder ≡ (sent_then (sent_ahead old.ahead old.sent.encoder) (sent_deed (Said text))).next
     pub ahead : new.ahead ≡ settled_at old.ahead.size None
     pub batches : (patient_state new).batches ≡ (patient_state old).batches
-    pub failures : new.output.failures ≡ old.output.failures
+    pub failures : new.sent.failures ≡ old.sent.failures
 
   -- such a deed leads from the one to the other
   abbrev pub DoesPatiently : PatientTerminal W → PatientTerminal W → Deed → Type 0

@@ -27,22 +27,22 @@ module _ {W : Type 0} (contents : W → Option (List ℕ)) where
   pub record IsSentPatiently (groups : List KnownBatch) (batches : List Batch) (old new : PatientTerminal W) : Type 0 where
     pub taken : (patient_state new).batches ≡ (patient_state old).batches ++ batches
     pub changes : changes_among old.ahead.kept ++ all_changes batches ≡ changes_among groups ++ changes_among new.ahead.kept
-    pub known : AreKnownSince old.ahead.size old.ahead.shown old.output.encoder groups
-    pub bytes : Appends (contents old.output.writer) (contents new.output.writer) (sent_for_all old.ahead.size.rows old.ahead.shown groups old.output.encoder).bytes
-    pub next : new.output.encoder ≡ (sent_for_all old.ahead.size.rows old.ahead.shown groups old.output.encoder).next
+    pub known : AreKnownSince old.ahead.size old.ahead.shown old.sent.encoder groups
+    pub bytes : Appends (contents old.writer) (contents new.writer) (sent_for_all old.ahead.size.rows old.ahead.shown groups old.sent.encoder).bytes
+    pub next : new.sent.encoder ≡ (sent_for_all old.ahead.size.rows old.ahead.shown groups old.sent.encoder).next
     pub shown : new.ahead.shown ≡ last_known old.ahead.shown groups
 
   -- So it is of a reading at which no failure was counted, and one could have been, and no event told a size.
   abbrev pub PatientlyLedIsSent : Type 0
   PatientlyLedIsSent = (events : List EventView) (old new : PatientTerminal W) → IsLedBy (DoesPatiently contents) events old new
-      → new.output.failures ≡ old.output.failures → old.output.failures ≢ usize_max → sizes_in events ≡ []
+      → new.sent.failures ≡ old.sent.failures → old.sent.failures ≢ usize_max → sizes_in events ≡ []
       → (groups : List KnownBatch) × (batches : List Batch) × IsSentPatiently groups batches old new
 
   -- Where nothing is kept back before it and after it, the groups have the changes of the batches that were taken in
   -- it, and no other.
   abbrev pub SettledIsSent : Type 0
   SettledIsSent = (events : List EventView) (old new : PatientTerminal W) → IsLedBy (DoesPatiently contents) events old new
-      → new.output.failures ≡ old.output.failures → old.output.failures ≢ usize_max → sizes_in events ≡ [] → old.ahead.kept ≡ [] → new.ahead.kept ≡ []
+      → new.sent.failures ≡ old.sent.failures → old.sent.failures ≢ usize_max → sizes_in events ≡ [] → old.ahead.kept ≡ [] → new.ahead.kept ≡ []
       → (groups : List KnownBatch) × (batches : List Batch) × (changes_among groups ≡ all_changes batches) × IsSentPatiently groups batches old new
 
   -- After calls that took a batch, no more being at hand, nothing is kept back.

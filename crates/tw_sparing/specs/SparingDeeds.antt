@@ -41,21 +41,21 @@ module _ {W : Type 0} (contents : W → Option (List ℕ)) where
   -- The bytes of the deed are appended to what is written, and no other; what is known is what is known after them, and
   -- of what is shown what is known since; and its batch, if it has one, is the last one taken.
   pub record SendsSparingly (deed : Deed) (old new : SparingTerminal W) : Type 0 where
-    pub bytes : Appends (contents old.output.writer) (contents new.output.writer) (sent_sparingly deed old.size.rows old.shown new.shown old.output.encoder).bytes
-    pub known : new.output.encoder ≡ (sent_sparingly deed old.size.rows old.shown new.shown old.output.encoder).next
-    pub shown : IsKnownSince deed old.size old.output.encoder.x old.shown new.shown
+    pub bytes : Appends (contents old.writer) (contents new.writer) (sent_sparingly deed old.size.rows old.shown new.shown old.sent.encoder).bytes
+    pub known : new.sent.encoder ≡ (sent_sparingly deed old.size.rows old.shown new.shown old.sent.encoder).next
+    pub shown : IsKnownSince deed old.size old.sent.encoder.x old.shown new.shown
     pub size : new.size ≡ size_since deed old.size
     pub batches : (sparing_state new).batches ≡ (sparing_state old).batches ++ batches_by (deed ∷ [])
-    pub failures : old.output.failures ≤ new.output.failures
+    pub failures : old.sent.failures ≤ new.sent.failures
 
   -- A batch is refused, which is counted. What is written is not told, and it is not known what is shown and in which
   -- column the cursor stands.
   pub record FailsSparingly (old new : SparingTerminal W) : Type 0 where
-    pub known : new.output.encoder ≡ old.output.encoder
+    pub known : new.sent.encoder ≡ old.sent.encoder
     pub shown : new.shown ≡ None
     pub start : new.at_start ≡ false
     pub size : new.size ≡ old.size
-    pub failures : new.output.failures ≡ count_up old.output.failures
+    pub failures : new.sent.failures ≡ count_up old.sent.failures
 
   -- such a deed leads from the one to the other
   abbrev pub DoesSparingly : SparingTerminal W → SparingTerminal W → Deed → Type 0

@@ -25,13 +25,13 @@ module _ {W : Type 0} (contents : W → Option (List ℕ)) where
   -- then what is sent for them.
   pub record IsSentSparingly (calls : List KnownBatch) (old new : SparingTerminal W) : Type 0 where
     pub batches : (sparing_state new).batches ≡ (sparing_state old).batches ++ batches_among calls
-    pub known : AreKnownSince old.size old.shown old.output.encoder calls
-    pub bytes : Appends (contents old.output.writer) (contents new.output.writer) (sent_for_all old.size.rows old.shown calls old.output.encoder).bytes
-    pub next : new.output.encoder ≡ (sent_for_all old.size.rows old.shown calls old.output.encoder).next
+    pub known : AreKnownSince old.size old.shown old.sent.encoder calls
+    pub bytes : Appends (contents old.writer) (contents new.writer) (sent_for_all old.size.rows old.shown calls old.sent.encoder).bytes
+    pub next : new.sent.encoder ≡ (sent_for_all old.size.rows old.shown calls old.sent.encoder).next
     pub shown : new.shown ≡ last_known old.shown calls
 
   -- So it is of a reading at which no failure was counted, and one could have been, and no event told a size.
   abbrev pub SparinglyLedIsSent : Type 0
   SparinglyLedIsSent = (events : List EventView) (old new : SparingTerminal W) → IsLedBy (DoesSparingly contents) events old new
-      → new.output.failures ≡ old.output.failures → old.output.failures ≢ usize_max → sizes_in events ≡ []
+      → new.sent.failures ≡ old.sent.failures → old.sent.failures ≢ usize_max → sizes_in events ≡ []
       → (calls : List KnownBatch) × IsSentSparingly calls old new

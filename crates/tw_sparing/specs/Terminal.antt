@@ -8,17 +8,17 @@ use Rattle.tw_sparing.specs.declared.terminal.SparingTerminal.{SparingTerminal}
 
 -- one that is sent what differs
 abbrev pub sparing_state : {W : Type 0} → SparingTerminal W → TerminalState
-sparing_state it = state_at it.size it.output
+sparing_state it = state_at it.size it.sent
 
 -- one that waits while more is at hand: its batches are kept back or sent
 abbrev pub patient_state : {W : Type 0} → PatientTerminal W → TerminalState
-patient_state it = state_at it.ahead.size it.output
+patient_state it = state_at it.ahead.size it.sent
 
 -- one whose writer has refused: what is kept back is lost, it is not known what is shown and in which column the cursor
 -- stands, and the next batch is sent
 abbrev pub lost_at : {W : Type 0} → W → PatientTerminal W → PatientTerminal W
 lost_at writer it = record it {
-  output = record it.output { writer = writer };
+  writer = writer;
   ahead = settled_at it.ahead.size None;
   at_start = false;
   is_more = false;

@@ -19,7 +19,7 @@ use crate::shown::{Shown, ends_at_start, is_at_start};
 use std::alloc::Global;
 use std::io::Write;
 use tw_ansi::Encoder;
-use tw_device::{BatchWriter, DeviceTerminal};
+use tw_device::{BatchRecord, DeviceTerminal, write_text};
 use tw_input::InputEvent;
 use tw_surface::Change;
 use tw_terminal::{ScreenSize, Terminal, TerminalFault};
@@ -31,7 +31,8 @@ use tw_terminal::{ScreenSize, Terminal, TerminalFault};
 #[derive(Drop)]
 pub struct PatientTerminal<W> {
     alloc: Global,
-    output: BatchWriter<W>,
+    writer: W,
+    sent: BatchRecord,
     ahead: Ahead,
     at_start: bool,
     is_more: bool,
@@ -41,15 +42,15 @@ impl<W: Write> PatientTerminal<W> {
     /// Creates a terminal of this size, whose cursor stands in column 0. No more is at hand.
     pub fn new(alloc: Global, writer: W, size: ScreenSize) -> Self
         ensures state { patient_state result ≡ fresh_terminal size [] }
-        ensures known { result.output.encoder ≡ first_known size.cols }
+        ensures known { result.sent.encoder ≡ first_known size.cols }
         ensures ahead { result.ahead ≡ settled_at size None }
         ensures more { result.is_more ≡ false }
-        ensures writer { result.output.writer ≡ writer }
+        ensures writer { result.writer ≡ writer }
     {
-        let output = BatchWriter::new(writer, size.cols);
         PatientTerminal {
             alloc,
-            output,
+            writer,
+            sent: BatchRecord::new(size.cols),
             ahead: Ahead::new(size, None),
             at_start: true,
             is_more: false,
@@ -73,14 +74,14 @@ impl<W: Write> PatientTerminal<W> {
         ensures state { patient_state self.new ≡ record (patient_state self.old) { size = size } }
         ensures ahead { self.new.ahead ≡ settled_at size None }
         ensures more { self.new.is_more ≡ self.old.is_more }
-        ensures writer { self.old.ahead.kept ≡ [] → self.new.output.writer
-            ≡ self.old.output.writer }
+        ensures writer { self.old.ahead.kept ≡ [] → self.new.writer
+            ≡ self.old.writer }
         ensures sized { DoesPatiently W.contents self.old self.new (Sized size) }
     {
         if let Ok(encoder) = self.catch_up() {
-            self.output.encoder = encoder;
+            self.sent.encoder = encoder;
         }
-        self.output.encoder.set_cols(size.cols);
+        self.sent.encoder.set_cols(size.cols);
         self.ahead = Ahead::new(size, None);
     }
 
@@ -89,7 +90,7 @@ impl<W: Write> PatientTerminal<W> {
     /// is not known. A refusal may have sent a beginning, and what was kept back is lost with it.
     pub fn send(&mut self, text: &str) -> Result<(), TerminalFault>
         ensures kept { patient_state self.new ≡ patient_state self.old }
-        ensures refused { OnErr result ((self.new.output.encoder ≡ self.old.output.encoder)
+        ensures refused { OnErr result ((self.new.sent.encoder ≡ self.old.sent.encoder)
             × (self.new.at_start ≡ false)) }
         ensures ahead { self.new.ahead ≡ settled_at self.old.ahead.size None }
         ensures more { self.new.is_more ≡ self.old.is_more }
@@ -97,7 +98,7 @@ impl<W: Write> PatientTerminal<W> {
     {
         let caught = self.catch_up();
         self.at_start = false;
-        self.output.send(caught?, text)?;
+        self.sent.send(&mut self.writer, caught?, text)?;
         self.at_start = true;
         Ok(())
     }
@@ -106,32 +107,32 @@ impl<W: Write> PatientTerminal<W> {
     /// What the terminal shows is not known afterwards.
     fn catch_up(&mut self) -> Result<Encoder, TerminalFault>
         ensures kept { self.new ≡ record self.old {
-          output = record self.old.output { writer = self.new.output.writer };
+          writer = self.new.writer;
           ahead = settled_at self.old.ahead.size None;
           at_start = self.new.at_start;
         } }
-        ensures sent { OnOk result (Appends (W.contents self.old.output.writer)
-            (W.contents self.new.output.writer)
-            (sent_ahead self.old.ahead self.old.output.encoder).bytes) }
+        ensures sent { OnOk result (Appends (W.contents self.old.writer)
+            (W.contents self.new.writer)
+            (sent_ahead self.old.ahead self.old.sent.encoder).bytes) }
         ensures next { IfOk result (λ next. next
-            ≡ (sent_ahead self.old.ahead self.old.output.encoder).next) }
+            ≡ (sent_ahead self.old.ahead self.old.sent.encoder).next) }
         ensures start { OnErr result (self.new.at_start ≡ false) }
-        ensures settled { self.old.ahead.kept ≡ [] → (result ≡ Ok self.old.output.encoder)
-            × (self.new.output.writer ≡ self.old.output.writer) }
+        ensures settled { self.old.ahead.kept ≡ [] → (result ≡ Ok self.old.sent.encoder)
+            × (self.new.writer ≡ self.old.writer) }
     {
         let size = self.ahead.size();
         if self.ahead.is_settled() {
             self.ahead = Ahead::new(size, None);
-            return Ok(self.output.encoder);
+            return Ok(self.sent.encoder);
         }
         let mut text = String::new(self.alloc);
         let encoded = self
             .ahead
-            .send_kept(self.alloc, self.output.encoder, &mut text);
+            .send_kept(self.alloc, self.sent.encoder, &mut text);
         self.ahead = Ahead::new(size, None);
         self.at_start = false;
         let encoder = encoded?;
-        self.output.write(text.as_str())?;
+        write_text(&mut self.writer, text.as_str())?;
         Ok(encoder)
     }
 
@@ -147,7 +148,7 @@ impl<W: Write> PatientTerminal<W> {
             (batch_view changes.now) (latest_known self.old.ahead) next }
         requires joined { is_joined ≡ true → IsJoined (batch_view changes.now) self.old.ahead next }
         requires groups { AreKnownSince self.old.ahead.size self.old.ahead.shown
-            self.old.output.encoder (groups_with is_joined (batch_view changes.now) self.old.ahead next) }
+            self.old.sent.encoder (groups_with is_joined (batch_view changes.now) self.old.ahead next) }
         ensures ok { OnOk result (Renders (batch_view changes.now) (patient_state self.old)
             (patient_state self.new)) }
         ensures sent { OnOk result (SendsGroups W.contents
@@ -155,9 +156,9 @@ impl<W: Write> PatientTerminal<W> {
             self.old self.new) }
         ensures shown { OnOk result (self.new.ahead.shown ≡ next) }
         ensures more { OnOk result (self.new.is_more ≡ self.old.is_more) }
-        ensures err { OnErr result (self.new ≡ lost_at self.new.output.writer self.old) }
-        ensures unsent { IfErr result (λ fault. fault ≡ Memory → self.new.output.writer
-            ≡ self.old.output.writer) }
+        ensures err { OnErr result (self.new ≡ lost_at self.new.writer self.old) }
+        ensures unsent { IfErr result (λ fault. fault ≡ Memory → self.new.writer
+            ≡ self.old.writer) }
     {
         let mut text = String::new(self.alloc);
         let encoded = self.ahead.send_with(
@@ -165,7 +166,7 @@ impl<W: Write> PatientTerminal<W> {
             changes,
             &next,
             is_joined,
-            self.output.encoder,
+            self.sent.encoder,
             &mut text,
         );
         let was_more = self.is_more;
@@ -174,8 +175,8 @@ impl<W: Write> PatientTerminal<W> {
         self.at_start = false;
         self.is_more = false;
         let encoder = encoded?;
-        self.output.write(text.as_str())?;
-        self.output.take(changes, encoder);
+        write_text(&mut self.writer, text.as_str())?;
+        self.sent.take(changes, encoder);
         self.ahead = Ahead::new(size, next);
         self.at_start = ends_at_start(changes);
         self.is_more = was_more;
@@ -189,16 +190,16 @@ impl<W: Write> PatientTerminal<W> {
         ensures sent { OnOk result (IsTakenPatiently W.contents (batch_view changes.now)
             self.old self.new) }
         ensures more { OnOk result (self.new.is_more ≡ self.old.is_more) }
-        ensures err { OnErr result (self.new ≡ lost_at self.new.output.writer self.old) }
-        ensures unsent { IfErr result (λ fault. fault ≡ Memory → self.new.output.writer
-            ≡ self.old.output.writer) }
+        ensures err { OnErr result (self.new ≡ lost_at self.new.writer self.old) }
+        ensures unsent { IfErr result (λ fault. fault ≡ Memory → self.new.writer
+            ≡ self.old.writer) }
     {
-        let encoder = self.output.encoder;
+        let encoder = self.sent.encoder;
         let at_start = is_at_start(self.at_start, encoder, self.ahead.size().cols);
         let (next, is_joined) = self.ahead.known_after(self.alloc, at_start, changes);
         if is_joined && self.is_more {
             self.ahead.keep(changes, next);
-            self.output.take(changes, encoder);
+            self.sent.take(changes, encoder);
             return Ok(());
         }
         self.put(changes, next, is_joined)
@@ -241,11 +242,11 @@ impl<W: Write> Terminal for PatientTerminal<W> {
         ensures took { OnOk result (FollowsPatiently W.contents self.old self.new
             (Took (batch_view changes.now))) }
         ensures refused { OnErr result (FollowsPatiently W.contents self.old self.new Refused) }
-        ensures unsent { IfErr result (λ fault. fault ≡ Memory → self.new.output.writer
-            ≡ self.old.output.writer) }
+        ensures unsent { IfErr result (λ fault. fault ≡ Memory → self.new.writer
+            ≡ self.old.writer) }
     {
         let taken = self.take(changes);
-        self.output.counted(taken)
+        self.sent.counted(taken)
     }
 
     /// Flushes the writer, to which it adds no byte. If something is kept back it does nothing, and is not refused:
@@ -253,17 +254,17 @@ impl<W: Write> Terminal for PatientTerminal<W> {
     fn flush(&mut self) -> Result<(), TerminalFault>
         ensures ok { OnOk result (Flushes (patient_state self.old) (patient_state self.new)) }
         ensures err { OnErr result (Fails (patient_state self.old) (patient_state self.new)) }
-        ensures kept { self.new ≡ record self.old { output = self.new.output } }
-        ensures writer { Keeps (W.contents self.old.output.writer)
-            (W.contents self.new.output.writer) }
+        ensures kept { self.new ≡ record self.old { writer = self.new.writer; sent = self.new.sent } }
+        ensures writer { Keeps (W.contents self.old.writer)
+            (W.contents self.new.writer) }
         ensures waits { (self.old.ahead.kept ≡ [] → ⊥) → (result ≡ Ok tt)
-            × (self.new.output.writer ≡ self.old.output.writer) }
+            × (self.new.writer ≡ self.old.writer) }
         ensures follows { FollowsPatiently W.contents self.old self.new Other }
     {
         if self.ahead.is_settled() {
-            return self.output.flush();
+            return self.sent.flush(&mut self.writer);
         }
-        self.output.mark_flushed();
+        self.sent.mark_flushed();
         Ok(())
     }
 }

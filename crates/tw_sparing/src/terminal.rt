@@ -18,7 +18,7 @@ use crate::sending::send_for;
 use crate::shown::{Shown, ends_at_start, is_at_start, shown_after};
 use std::alloc::Global;
 use std::io::Write;
-use tw_device::{BatchWriter, DeviceTerminal};
+use tw_device::{BatchRecord, DeviceTerminal, write_text};
 use tw_input::InputEvent;
 use tw_surface::Change;
 use tw_terminal::{ScreenSize, Terminal, TerminalFault};
@@ -28,8 +28,9 @@ use tw_terminal::{ScreenSize, Terminal, TerminalFault};
 #[derive(Drop)]
 pub struct SparingTerminal<W> {
     alloc: Global,
+    writer: W,
     size: ScreenSize,
-    output: BatchWriter<W>,
+    sent: BatchRecord,
     shown: Option<Shown>,
     at_start: bool,
 }
@@ -38,15 +39,15 @@ impl<W: Write> SparingTerminal<W> {
     /// Creates a terminal of this size, whose cursor stands in column 0.
     pub fn new(alloc: Global, writer: W, size: ScreenSize) -> Self
         ensures state { sparing_state result ≡ fresh_terminal size [] }
-        ensures known { result.output.encoder ≡ first_known size.cols }
+        ensures known { result.sent.encoder ≡ first_known size.cols }
         ensures shown { result.shown ≡ None }
-        ensures writer { result.output.writer ≡ writer }
+        ensures writer { result.writer ≡ writer }
     {
-        let output = BatchWriter::new(writer, size.cols);
         SparingTerminal {
             alloc,
+            writer,
             size,
-            output,
+            sent: BatchRecord::new(size.cols),
             shown: None,
             at_start: true,
         }
@@ -55,13 +56,13 @@ impl<W: Write> SparingTerminal<W> {
     /// Sets the size, which nothing else changes. What the terminal shows then is not known.
     pub fn set_screen_size(&mut self, size: ScreenSize)
         ensures state { sparing_state self.new ≡ record (sparing_state self.old) { size = size } }
-        ensures known { self.new.output.encoder
-            ≡ record self.old.output.encoder { cols = size.cols } }
+        ensures known { self.new.sent.encoder
+            ≡ record self.old.sent.encoder { cols = size.cols } }
         ensures shown { self.new.shown ≡ None }
-        ensures writer { self.new.output.writer ≡ self.old.output.writer }
+        ensures writer { self.new.writer ≡ self.old.writer }
         ensures sized { DoesSparingly W.contents self.old self.new (Sized size) }
     {
-        self.output.encoder.set_cols(size.cols);
+        self.sent.encoder.set_cols(size.cols);
         self.size = size;
         self.shown = None;
     }
@@ -71,15 +72,15 @@ impl<W: Write> SparingTerminal<W> {
     /// may have sent a beginning.
     pub fn send(&mut self, text: &str) -> Result<(), TerminalFault>
         ensures kept { sparing_state self.new ≡ sparing_state self.old }
-        ensures refused { OnErr result ((self.new.output.encoder ≡ self.old.output.encoder)
+        ensures refused { OnErr result ((self.new.sent.encoder ≡ self.old.sent.encoder)
             × (self.new.at_start ≡ false)) }
         ensures shown { self.new.shown ≡ None }
         ensures said { OnOk result (DoesSparingly W.contents self.old self.new (Said text.now)) }
     {
         self.shown = None;
         self.at_start = false;
-        let encoder = self.output.encoder;
-        self.output.send(encoder, text)?;
+        let encoder = self.sent.encoder;
+        self.sent.send(&mut self.writer, encoder, text)?;
         self.at_start = true;
         Ok(())
     }
@@ -91,14 +92,14 @@ impl<W: Write> SparingTerminal<W> {
         ensures took { OnOk result (DoesSparingly W.contents self.old self.new
             (Called (Took (batch_view changes.now)))) }
         ensures err { OnErr result (self.new ≡ record self.old {
-          output = record self.old.output { writer = self.new.output.writer };
+          writer = self.new.writer;
           shown = None;
           at_start = false;
         }) }
-        ensures unsent { IfErr result (λ fault. fault ≡ Memory → self.new.output.writer
-            ≡ self.old.output.writer) }
+        ensures unsent { IfErr result (λ fault. fault ≡ Memory → self.new.writer
+            ≡ self.old.writer) }
     {
-        let at_start = is_at_start(self.at_start, self.output.encoder, self.size.cols);
+        let at_start = is_at_start(self.at_start, self.sent.encoder, self.size.cols);
         let next = shown_after(self.alloc, self.size, &self.shown, at_start, changes);
         let mut text = String::new(self.alloc);
         let encoded = send_for(
@@ -107,14 +108,14 @@ impl<W: Write> SparingTerminal<W> {
             changes,
             &self.shown,
             &next,
-            self.output.encoder,
+            self.sent.encoder,
             &mut text,
         );
         self.shown = None;
         self.at_start = false;
         let encoder = encoded?;
-        self.output.write(text.as_str())?;
-        self.output.take(changes, encoder);
+        write_text(&mut self.writer, text.as_str())?;
+        self.sent.take(changes, encoder);
         self.shown = next;
         self.at_start = ends_at_start(changes);
         Ok(())
@@ -156,23 +157,23 @@ impl<W: Write> Terminal for SparingTerminal<W> {
             (Called (Took (batch_view changes.now)))) }
         ensures refused { OnErr result (DoesSparingly W.contents self.old self.new
             (Called Refused)) }
-        ensures unsent { IfErr result (λ fault. fault ≡ Memory → self.new.output.writer
-            ≡ self.old.output.writer) }
+        ensures unsent { IfErr result (λ fault. fault ≡ Memory → self.new.writer
+            ≡ self.old.writer) }
     {
         let sent = self.put(changes);
-        self.output.counted(sent)
+        self.sent.counted(sent)
     }
 
     /// Flushes the writer, to which it adds no byte.
     fn flush(&mut self) -> Result<(), TerminalFault>
         ensures ok { OnOk result (Flushes (sparing_state self.old) (sparing_state self.new)) }
         ensures err { OnErr result (Fails (sparing_state self.old) (sparing_state self.new)) }
-        ensures kept { self.new ≡ record self.old { output = self.new.output } }
-        ensures writer { Keeps (W.contents self.old.output.writer)
-            (W.contents self.new.output.writer) }
+        ensures kept { self.new ≡ record self.old { writer = self.new.writer; sent = self.new.sent } }
+        ensures writer { Keeps (W.contents self.old.writer)
+            (W.contents self.new.writer) }
         ensures follows { DoesSparingly W.contents self.old self.new (Called Other) }
     {
-        self.output.flush()
+        self.sent.flush(&mut self.writer)
     }
 }
 

@@ -1,4 +1,4 @@
-//! The writer of a terminal, with what is kept of what was sent.
+//! What the terminals over a writer keep of what was sent, and how they write.
 
 ghost use Rattle.std.specs.Io.KnownBytes.{Appends, Keeps};
 ghost use Rattle.std.specs.Prelude.{◌≡◌, ◌∷◌, ◌++◌, [], IfErr, IfOk, OnErr, OnOk, string_bytes};
@@ -16,65 +16,52 @@ use tw_ansi::Encoder;
 use tw_surface::Change;
 use tw_terminal::{BatchLog, TerminalFault};
 
-/// What the terminals over a writer share: the writer, what is known of the terminal behind it, the batches that were
+/// What the terminals over a writer keep of what was sent: what is known of the terminal since, the batches that were
 /// taken, and the count of failures.
 #[derive(Drop)]
-pub struct BatchWriter<W> {
+pub struct BatchRecord {
     /// What is known of the terminal: its columns, the column of its cursor, and its attributes.
     pub encoder: Encoder,
-    writer: W,
     batches: BatchLog,
     flushed: Snapshot<BatchLog>,
     failures: usize,
 }
 
-impl<W: Write> BatchWriter<W> {
+impl BatchRecord {
     /// Creates one for a terminal of `cols` columns, whose cursor stands in column 0.
-    pub fn new(writer: W, cols: usize) -> Self
+    pub fn new(cols: usize) -> Self
         ensures known { result.encoder ≡ first_known cols }
-        ensures writer { result.writer ≡ writer }
         ensures batches { result.batches ≡ [] }
         ensures flushed { result.flushed.value ≡ [] }
         ensures failures { result.failures ≡ 0 }
     {
         let batches = BatchLog::new();
         let flushed = Snapshot::of(&batches);
-        BatchWriter {
+        BatchRecord {
             encoder: Encoder::new(cols),
-            writer,
             batches,
             flushed,
             failures: 0,
         }
     }
 
-    /// Writes a text as it is. A refusal may have written a beginning.
-    pub fn write(&mut self, text: &str) -> Result<(), TerminalFault>
-        ensures kept { self.new ≡ record self.old { writer = self.new.writer } }
-        ensures sent { OnOk result (Appends (W.contents self.old.writer)
-            (W.contents self.new.writer) text.now) }
-        ensures failed { IfErr result (λ fault. fault ≡ Device) }
-    {
-        match self.writer.write_all(text.as_bytes()) {
-            Ok(()) => Ok(()),
-            Err(_) => Err(TerminalFault::Device),
-        }
-    }
-
     /// Writes a reset of all attributes and a text, to a terminal of which this is known. A refusal may have written a
     /// beginning of both.
-    pub fn send(&mut self, encoder: Encoder, text: &str) -> Result<(), TerminalFault>
+    pub fn send<W: Write>(
+        &mut self,
+        writer: &mut W,
+        encoder: Encoder,
+        text: &str,
+    ) -> Result<(), TerminalFault>
         ensures sent { let bytes = set_attributes default_attributes ++ text.now in
-            OnOk result (Appends (W.contents self.old.writer) (W.contents self.new.writer) bytes) }
-        ensures ok { OnOk result (self.new ≡ record self.old {
-          encoder = without_attributes encoder;
-          writer = self.new.writer;
-        }) }
-        ensures err { OnErr result (self.new ≡ record self.old { writer = self.new.writer }) }
+            OnOk result (Appends (W.contents writer.old) (W.contents writer.new) bytes) }
+        ensures ok { OnOk result (self.new
+            ≡ record self.old { encoder = without_attributes encoder }) }
+        ensures err { OnErr result (self.new ≡ self.old) }
     {
         let mut encoder = encoder;
-        self.write(encoder.reset())?;
-        self.write(text)?;
+        write_text(writer, encoder.reset())?;
+        write_text(writer, text)?;
         self.encoder = encoder;
         Ok(())
     }
@@ -99,19 +86,14 @@ impl<W: Write> BatchWriter<W> {
     }
 
     /// Flushes the writer, to which no byte is added, and counts a failure.
-    pub fn flush(&mut self) -> Result<(), TerminalFault>
-        ensures writer { Keeps (W.contents self.old.writer) (W.contents self.new.writer) }
-        ensures ok { OnOk result (self.new ≡ record self.old {
-          writer = self.new.writer;
-          flushed = self.new.flushed;
-        }) }
+    pub fn flush<W: Write>(&mut self, writer: &mut W) -> Result<(), TerminalFault>
+        ensures writer { Keeps (W.contents writer.old) (W.contents writer.new) }
+        ensures ok { OnOk result (self.new ≡ record self.old { flushed = self.new.flushed }) }
         ensures flushed { OnOk result (self.new.flushed.value ≡ self.old.batches) }
-        ensures err { OnErr result (self.new ≡ record self.old {
-          writer = self.new.writer;
-          failures = count_up self.old.failures;
-        }) }
+        ensures err { OnErr result (self.new
+            ≡ record self.old { failures = count_up self.old.failures }) }
     {
-        if self.writer.flush().is_err() {
+        if writer.flush().is_err() {
             return self.counted(Err(TerminalFault::Device));
         }
         self.mark_flushed();
@@ -129,6 +111,17 @@ impl<W: Write> BatchWriter<W> {
             self.failures = self.failures.saturating_add(1);
         }
         sent
+    }
+}
+
+/// Writes a text as it is. A refusal may have written a beginning.
+pub fn write_text<W: Write>(writer: &mut W, text: &str) -> Result<(), TerminalFault>
+    ensures sent { OnOk result (Appends (W.contents writer.old) (W.contents writer.new) text.now) }
+    ensures failed { IfErr result (λ fault. fault ≡ Device) }
+{
+    match writer.write_all(text.as_bytes()) {
+        Ok(()) => Ok(()),
+        Err(_) => Err(TerminalFault::Device),
     }
 }
 

@@ -2,7 +2,7 @@
 use Rattle.std.proofs.Common.{◌≡◌, ◌++◌, drop, string_bytes}
 use Rattle.tw_surface.specs.ChangeView.{batch_view}
 use Rattle.tw_ansi.specs.Encoding.{sent_batch}
-use Rattle.tw_device.proofs.batch_writer.encode_batch.Given as goal
+use Rattle.tw_device.proofs.batch_record.encode_batch.Given as goal
 
 abbrev pub invariant-loop-change : goal.invariant-loop-change
 invariant-loop-change l = record {
