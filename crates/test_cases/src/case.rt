@@ -173,17 +173,6 @@ pub(crate) fn case_terminal(alloc: Global, case: &Case<'_>) -> Result<ScriptTerm
     Ok(terminal)
 }
 
-/// Reads the lines of a case with one editor, and gives the answers as text and the terminal.
-pub fn readings_of<H: LineEditorHost>(
-    alloc: Global,
-    case: &Case<'_>,
-    host: &mut H,
-) -> Result<(String, ScriptTerminal), Fail> {
-    let mut terminal = case_terminal(alloc, case)?;
-    let answers = read_lines(alloc, case, host, &mut terminal)?;
-    Ok((answers, terminal))
-}
-
 /// Reads the lines of a case with one editor on this terminal, and returns the answers as text.
 pub(crate) fn read_lines<H: LineEditorHost>(
     alloc: Global,

@@ -165,7 +165,7 @@ fn played_terminal(alloc: Global, case: &Case<'_>, play: Play) -> Result<ScriptT
 }
 
 /// Returns the batches without a clearing of the screen after them.
-pub fn without_clearing(batches: &[Vec<Change>]) -> &[Vec<Change>] {
+fn without_clearing(batches: &[Vec<Change>]) -> &[Vec<Change>] {
     match batches {
         [before @ .., last]
             if last.as_slice() == [Change::ClearScreen(ColorAttribute::Default)].as_slice() => {

@@ -13,7 +13,7 @@ use tw_terminal::{ScriptTerminal, TerminalFault};
 type Editor<'term> = LineEditor<'term, ScriptTerminal>;
 
 /// Returns true if memory was refused, to the editor or to its terminal.
-pub fn is_memory(error: &Error) -> bool {
+fn is_memory(error: &Error) -> bool {
     matches!(
         error,
         Error::Memory(_) | Error::Terminal(TerminalFault::Memory)

@@ -27,7 +27,7 @@ fn scalar_of(text: &str) -> Option<(char, &str)> {
 }
 
 /// Replaces the escapes of a text: `\n`, `\r`, `\t`, `\e` for ESC, `\u{CODE}` and `\\`. Any other backslash is itself.
-pub fn unescaped(alloc: Global, text: &str) -> Result<String, Fail> {
+fn unescaped(alloc: Global, text: &str) -> Result<String, Fail> {
     let mut plain = String::new(alloc);
     let mut is_plain = true;
     for part in text.split('\\') {

@@ -30,8 +30,6 @@ mod readline;
 #[cfg(test)]
 mod recent;
 #[cfg(test)]
-mod refusals;
-#[cfg(test)]
 mod row_cells;
 #[cfg(test)]
 mod row_keys;
@@ -43,6 +41,8 @@ mod settling;
 mod tables;
 #[cfg(test)]
 mod validator;
+#[cfg(test)]
+mod without_memory;
 #[cfg(test)]
 mod word_keys;
 #[cfg(test)]

@@ -9,16 +9,11 @@ mod buffers;
 #[cfg(test)]
 mod drawings;
 #[cfg(test)]
-#[cfg(test)]
-mod fed_lines;
-#[cfg(test)]
 mod free_steps;
 #[cfg(test)]
 mod histories;
 #[cfg(test)]
 mod read_lines;
-#[cfg(test)]
-mod remembered;
 #[cfg(test)]
 mod scripts;
 #[cfg(test)]
