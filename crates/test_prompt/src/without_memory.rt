@@ -1,4 +1,4 @@
-//! A prompt that takes no memory.
+//! A prompt that allocates nothing while its line is empty.
 
 use crate::prompt::new_prompt;
 use std::test::Fail;
