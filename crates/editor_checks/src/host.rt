@@ -6,33 +6,28 @@ ghost use Rattle.editor_checks.specs.MarkedHost.{Marked, marked_is_plain, marked
 
 use std::alloc::{AllocError, Global};
 use tw_lineedit::{
-    CompletionCandidate, History, LineEditorHost, OutputElement, Overrides, copy_candidates,
-    plain_element,
+    BasicHistory, CompletionCandidate, History, LineEditorHost, OutputElement, Overrides,
+    copy_candidates, plain_element,
 };
 use tw_surface::AttributeChange;
 
 /// A host with a history, a preview of one text and candidates that it answers to every request. The preview may
 /// hold several lines.
 #[derive(Drop)]
-pub struct MarkedHost<L> {
-    history: L,
+pub struct MarkedHost {
+    history: BasicHistory,
     preview: String,
     candidates: Vec<CompletionCandidate>,
     column: Option<usize>,
 }
 
-impl<L: History + Drop> MarkedHost<L> {
-    /// Creates a host with this history, a preview, and no candidates. The empty text is no preview. The column of the
-    /// cursor is the one given, or else the number of bytes before the cursor.
-    pub fn new(
-        alloc: Global,
-        history: L,
-        preview: &str,
-        column: Option<usize>,
-    ) -> Result<Self, AllocError> {
+impl MarkedHost {
+    /// Creates a host with a preview, and with no lines and no candidates. The empty text is no preview. The column of
+    /// the cursor is `column`, or else the number of bytes before the cursor.
+    pub fn new(alloc: Global, preview: &str, column: Option<usize>) -> Result<Self, AllocError> {
         let preview = String::from_str(alloc, preview)?;
         Ok(MarkedHost {
-            history,
+            history: BasicHistory::new(alloc),
             preview,
             candidates: Vec::new(alloc),
             column,
@@ -58,13 +53,13 @@ impl<L: History + Drop> MarkedHost<L> {
     }
 }
 
-impl<L: History> LineEditorHost for MarkedHost<L> {
-    type Hist = L;
+impl LineEditorHost for MarkedHost {
+    type Hist = BasicHistory;
 
     ghost Value = { Marked };
 
     ghost value = { λ host. record {
-      lines = L.lines host.history;
+      lines = host.history;
       preview = string_bytes host.preview;
       candidates = map candidate_view host.candidates.items;
       column = host.column;
@@ -85,7 +80,7 @@ impl<L: History> LineEditorHost for MarkedHost<L> {
         ..Overrides::NONE
     };
 
-    fn history(&mut self) -> &mut L {
+    fn history(&mut self) -> &mut BasicHistory {
         &mut self.history
     }
 

@@ -1,5 +1,6 @@
 //! Rows as a table.
 
+use hex::encode_upper;
 use sqlite::types::{Bytes, ValueRef};
 use sqlite::{Error, Row};
 use std::alloc::{AllocError, Global};
@@ -27,16 +28,6 @@ pub fn visible(alloc: Global, text: &str) -> Result<String, AllocError> {
     Ok(shown)
 }
 
-/// Returns bytes as SQL writes them.
-fn hex(alloc: Global, bytes: &[u8]) -> Result<String, AllocError> {
-    let mut text = String::from_str(alloc, "X'")?;
-    for byte in bytes {
-        write!(text, "{byte:02X}")?;
-    }
-    text.push('\'')?;
-    Ok(text)
-}
-
 /// Returns what is shown of a value.
 fn field_of(alloc: Global, value: ValueRef<'_>) -> Result<Field, AllocError> {
     let text = match value {
@@ -44,7 +35,7 @@ fn field_of(alloc: Global, value: ValueRef<'_>) -> Result<Field, AllocError> {
         ValueRef::Int(number) => format!(in alloc; "{number}")?,
         ValueRef::Real(number) => format!(in alloc; "{number:?}")?,
         ValueRef::Text(bytes) => String::from_utf8_lossy(alloc, bytes)?,
-        ValueRef::Blob(bytes) => hex(alloc, bytes)?,
+        ValueRef::Blob(bytes) => format!(in alloc; "X'{}'", encode_upper(alloc, bytes)?)?,
     };
     Ok(Field {
         text: visible(alloc, text.as_str())?,

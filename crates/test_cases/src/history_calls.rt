@@ -7,7 +7,7 @@ use std::test::Fail;
 use tw_lineedit::{History, SearchDirection, SearchResult, SearchStyle};
 
 /// Returns the lines of a history, each with a bar after it.
-pub fn lines_of<L: History>(alloc: Global, history: &L) -> Result<String, AllocError> {
+fn lines_of<L: History>(alloc: Global, history: &L) -> Result<String, AllocError> {
     let mut lines = String::new(alloc);
     for at in 0..history.last().map_or(0, |last| last.saturating_add(1)) {
         if let Some(line) = history.get(alloc, at)? {

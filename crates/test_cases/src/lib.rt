@@ -42,7 +42,7 @@ pub use copies::expanded;
 pub use events::{
     event_of, event_text, events_named, script_events, script_terminal, terminal_of, terminal_sized,
 };
-pub use history_calls::{lines_of, play_history};
+pub use history_calls::play_history;
 pub use marks::{mark, mark_if};
 pub use outcome::told_of;
 pub use readings::refused_reading;

@@ -5,13 +5,14 @@ use std::test::Fail;
 use tw_surface::{CellAttributes, Change, Intensity, Screen};
 use tw_terminal::ScriptTerminal;
 
-/// Returns the changes of the last painting: the last batch but the closing one. None where nothing was painted.
+/// Returns the changes of the last painting: the last batch but the closing one. Returns None if nothing was
+/// painted.
 pub fn last_painting(terminal: &ScriptTerminal) -> Option<&[Change]> {
     Some(terminal.batches().iter().rev().nth(1)?.as_slice())
 }
 
-/// Returns the texts of some changes, one after the other. Where an attribute is set its change stands between braces,
-/// and `{}` where all are set to their defaults.
+/// Returns the texts of some changes, one after the other. If an attribute is set, its change stands between braces,
+/// and `{}` if all are set to their defaults.
 pub fn marked_text(alloc: Global, changes: &[Change]) -> Result<String, AllocError> {
     let mut marked = String::new(alloc);
     for change in changes {

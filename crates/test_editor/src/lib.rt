@@ -24,8 +24,6 @@ mod lookups;
 #[cfg(test)]
 mod names;
 #[cfg(test)]
-mod remembering;
-#[cfg(test)]
 mod scale;
 #[cfg(test)]
 mod scripts;

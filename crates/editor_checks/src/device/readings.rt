@@ -6,7 +6,7 @@ use crate::host::MarkedHost;
 use std::alloc::Global;
 use tw_device::{AnsiTerminal, Answer, Escape, EventSource, KeyReader, read_typed_line};
 use tw_input::InputEvent;
-use tw_lineedit::{BasicHistory, Error, LineEditor};
+use tw_lineedit::{Error, LineEditor};
 use tw_terminal::ScriptTerminal;
 
 /// How a reading ended.
@@ -49,7 +49,7 @@ fn read_typed_lines(
     trial: &Trial,
     keys: &mut KeyReader<Pieces<'_>>,
     terminal: &mut AnsiTerminal<Recorder<'_>>,
-    host: &mut MarkedHost<BasicHistory>,
+    host: &mut MarkedHost,
 ) -> Result<Vec<Ending>, anyhow::Error> {
     trial.fill(alloc, host)?;
     let mut endings = Vec::new(alloc);
@@ -102,7 +102,7 @@ fn read_lines(
     trial: &Trial,
     count: usize,
     terminal: &mut ScriptTerminal,
-    host: &mut MarkedHost<BasicHistory>,
+    host: &mut MarkedHost,
 ) -> Result<Vec<Ending>, anyhow::Error> {
     trial.fill(alloc, host)?;
     let mut endings = Vec::new(alloc);
@@ -117,7 +117,7 @@ fn read_lines(
 /// Reads a line under a prompt.
 fn read_line(
     editor: &mut LineEditor<'_, ScriptTerminal>,
-    host: &mut MarkedHost<BasicHistory>,
+    host: &mut MarkedHost,
     prompt: &str,
 ) -> Result<Option<String>, Error> {
     editor.set_prompt(prompt)?;

@@ -6,7 +6,6 @@ use crate::picks::{COLUMNS, PREVIEWS, PROMPTS};
 use crate::random_numbers::RandomNumbers;
 use crate::table::Entry;
 use std::alloc::{AllocError, Global};
-use tw_lineedit::BasicHistory;
 use tw_terminal::ScreenSize;
 
 const LINES: &[&str] = &[
@@ -74,16 +73,12 @@ impl Trial {
     }
 
     /// Creates the host of an editor, which is yet to be filled.
-    pub fn host(&self, alloc: Global) -> Result<MarkedHost<BasicHistory>, AllocError> {
-        MarkedHost::new(alloc, BasicHistory::new(alloc), self.preview, self.column)
+    pub fn host(&self, alloc: Global) -> Result<MarkedHost, AllocError> {
+        MarkedHost::new(alloc, self.preview, self.column)
     }
 
     /// Gives a host the history and two candidates.
-    pub fn fill(
-        &self,
-        alloc: Global,
-        host: &mut MarkedHost<BasicHistory>,
-    ) -> Result<(), AllocError> {
+    pub fn fill(&self, alloc: Global, host: &mut MarkedHost) -> Result<(), AllocError> {
         host.fill(alloc, &self.history, CANDIDATES)
     }
 }

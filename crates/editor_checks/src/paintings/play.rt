@@ -8,7 +8,7 @@ use crate::table::Entry;
 use std::alloc::Global;
 use std::fmt;
 use std::ops::RangeInclusive;
-use tw_lineedit::{BasicHistory, Error, LineEditor};
+use tw_lineedit::{Error, LineEditor};
 use tw_surface::Change;
 use tw_terminal::{ScreenSize, ScriptTerminal};
 
@@ -160,8 +160,7 @@ fn read_lines(
     terminal: &mut ScriptTerminal,
     trial: &Trial<'_>,
 ) -> Result<(), anyhow::Error> {
-    let history = BasicHistory::new(alloc);
-    let mut host = MarkedHost::new(alloc, history, trial.preview, trial.column)?;
+    let mut host = MarkedHost::new(alloc, trial.preview, trial.column)?;
     read_with(alloc, terminal, &mut host, trial)
 }
 
@@ -169,7 +168,7 @@ fn read_lines(
 fn read_with(
     alloc: Global,
     terminal: &mut ScriptTerminal,
-    host: &mut MarkedHost<BasicHistory>,
+    host: &mut MarkedHost,
     trial: &Trial<'_>,
 ) -> Result<(), anyhow::Error> {
     host.fill(alloc, trial.history, &[])?;
@@ -181,7 +180,7 @@ fn read_with(
 /// Reads the lines of a trial, one after the other.
 fn read_by(
     editor: &mut LineEditor<'_, ScriptTerminal>,
-    host: &mut MarkedHost<BasicHistory>,
+    host: &mut MarkedHost,
     trial: &Trial<'_>,
 ) -> Result<(), Error> {
     editor.set_prompt(trial.prompt)?;
