@@ -4,13 +4,9 @@ ghost use Rattle.std.specs.Prelude.{◌<◌};
 
 use crate::painted::PaintedTexts;
 use crate::random_numbers::RandomNumbers;
-use crate::shows::Shows;
 use std::alloc::{AllocError, Global};
 use tw_changed::ScreenCell;
 use tw_surface::CellAttributes;
-
-/// The rows that are compared on a screen without a bottom.
-pub const ROWS: usize = 41;
 
 /// The row at which a full screen is entered, where it has that row.
 const FULL_ENTRY: usize = 5;
@@ -48,9 +44,8 @@ impl Entry {
 
 /// What a cell is to hold: a character, in the mark of the line from its cursor on or in default attributes.
 #[derive(Clone, Copy)]
-pub struct TableCell {
-    /// The character.
-    pub character: char,
+struct TableCell {
+    character: char,
     is_marked: bool,
 }
 
@@ -64,7 +59,7 @@ impl TableCell {
     }
 
     /// Returns the character under its attributes. The mark is that of the host of this crate.
-    pub fn shown(self) -> ScreenCell {
+    fn shown(self) -> ScreenCell {
         ScreenCell {
             character: self.character,
             attributes: CellAttributes {
@@ -199,16 +194,6 @@ impl Table {
             Some(cell) => Some(cell.shown()),
             None => None,
         }
-    }
-
-    /// Returns how many cells of the screen hold something else. A cursor that stands elsewhere counts as one more.
-    pub fn differences(&self, screen: &impl Shows) -> usize {
-        let mut differences = usize::from(screen.cursor() != self.cursor);
-        for (at, cell) in self.cells.iter().enumerate() {
-            let holds = screen.holds(at / self.width, at % self.width, *cell);
-            differences = differences.saturating_add(usize::from(!holds));
-        }
-        differences
     }
 
     /// Returns the place `characters` characters after the start of a row.

@@ -35,7 +35,8 @@ pub fn read_catalog<S: Alter>(
     connection: &mut Connection<S>,
 ) -> Result<Catalog, Error> {
     let mut names = Vec::new(alloc);
-    for row in &connection.query_all(TABLES, &[])? {
+    let rows = connection.query_all(TABLES, &[])?;
+    for row in &rows {
         names.push(row.get(0)?)?;
     }
     keep_shown(&mut names);

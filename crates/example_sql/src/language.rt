@@ -118,7 +118,8 @@ impl Application for Language {
     ) -> Result<Vec<StyledRange>, AllocError> {
         let mut ranges = Vec::new(alloc);
         let mut start: usize = 0;
-        for token in &tokenize(alloc, line)? {
+        let tokens = tokenize(alloc, line)?;
+        for token in &tokens {
             let end = start.saturating_add(token.text.len());
             let attributes = self.look(*token);
             if attributes != CellAttributes::default() {

@@ -2,7 +2,7 @@
 //!
 //! Use it to write tests as rows of text, which one function plays (docs/GUIDE.md, "Testing").
 //!
-//! From `crates/test_device/src/wire.rt`:
+//! From `crates/test_prompt/src/devices/wire.rt`:
 //!
 //! ```
 //! const TYPED: &str = r"

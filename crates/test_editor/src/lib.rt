@@ -1,4 +1,5 @@
-//! Tests of the editor: its calls to the terminal, faults, hosts, histories, previews, and the language of scripts.
+//! Tests of the editor: its calls to the terminal, faults, hosts, histories, previews, and the language of scripts; of
+//! the layers below it; and of both with requests for memory refused.
 #![tactic(auto)]
 
 #[cfg(test)]
@@ -18,11 +19,15 @@ mod hosts;
 #[cfg(test)]
 mod idle;
 #[cfg(test)]
+mod layers;
+#[cfg(test)]
 mod lines;
 #[cfg(test)]
 mod lookups;
 #[cfg(test)]
 mod names;
+#[cfg(test)]
+mod refusals;
 #[cfg(test)]
 mod scale;
 #[cfg(test)]

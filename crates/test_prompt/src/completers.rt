@@ -82,7 +82,8 @@ fn add_commands(alloc: Global, prompt: &mut Prompt) -> Result<(), Fail> {
 fn offered_by(alloc: Global, prompt: &mut Prompt, line: &str) -> Result<String, Fail> {
     add_commands(alloc, prompt)?;
     let mut output = String::new(alloc);
-    for candidate in &prompt.complete(alloc, line, line.len())? {
+    let candidates = prompt.complete(alloc, line, line.len())?;
+    for candidate in &candidates {
         write!(output, "{}{} ", candidate.range.start, candidate.text)?;
     }
     Ok(String::from_str(alloc, output.trim_end())?)

@@ -47,10 +47,9 @@ fn sql_hints(alloc: Global) -> Result<Vec<Hint>, AllocError> {
         ("drop", "drops\r\na table"),
         ("drop", "never shown"),
     ] {
-        hints.push(Hint {
-            word: String::from_str(alloc, word)?,
-            text: String::from_str(alloc, text)?,
-        })?;
+        let word = String::from_str(alloc, word)?;
+        let text = String::from_str(alloc, text)?;
+        hints.push(Hint { word, text })?;
     }
     Ok(hints)
 }
@@ -106,7 +105,8 @@ fn candidates(
         return Err(Fail::from("no boundary"));
     }
     let mut output = String::new(alloc);
-    for candidate in &host.complete(alloc, line, cursor)? {
+    let candidates = host.complete(alloc, line, cursor)?;
+    for candidate in &candidates {
         let place = &candidate.range;
         write!(output, "{}-{}:{} ", place.start, place.end, candidate.text)?;
     }
@@ -140,7 +140,8 @@ fn at_cursor(
 fn actions(alloc: Global, host: &mut TableHost<BasicHistory>, names: &str) -> Result<String, Fail> {
     let mut line = LineEditBuffer::new(alloc, "abc", 1)?;
     let mut output = Vec::new(alloc);
-    for event in &events_named(alloc, names)? {
+    let events = events_named(alloc, names)?;
+    for event in &events {
         let action = host.resolve_action(alloc, event, &mut line)?;
         output.push(format!(in alloc; "{action:?} {:?}", line.get_line())?)?;
     }

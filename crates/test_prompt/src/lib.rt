@@ -1,10 +1,13 @@
-//! Tests of the parts of a prompt: keys of readline, completion, menus, hints, validators, kept histories.
+//! Tests of what stands above the editor: devices, and the parts of a prompt: keys of readline, completion, menus,
+//! hints, validators, kept histories.
 #![tactic(auto)]
 
 #[cfg(test)]
 mod beginnings;
 #[cfg(test)]
 mod completers;
+#[cfg(test)]
+mod devices;
 #[cfg(test)]
 mod file;
 #[cfg(test)]

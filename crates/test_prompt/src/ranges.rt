@@ -27,7 +27,8 @@ fn ranges_of(alloc: Global, text: &str) -> Result<Vec<StyledRange>, Fail> {
 fn shown(alloc: Global, row: &str) -> Result<String, Fail> {
     let (line, ranges) = row.split_once(" | ").ok_or("no ranges")?;
     let mut text = String::new(alloc);
-    for element in &styled_ranges(alloc, &ranges_of(alloc, ranges)?, line)? {
+    let elements = styled_ranges(alloc, &ranges_of(alloc, ranges)?, line)?;
+    for element in &elements {
         match element {
             OutputElement::Text(part) => text.push_str(part.as_str())?,
             OutputElement::AllAttributes(attributes) => {

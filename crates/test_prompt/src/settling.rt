@@ -14,7 +14,8 @@ fn resized(alloc: Global, prompt: &mut Prompt, command: &str) -> Result<String, 
     let (name, line) = command.split_once(' ').ok_or("no line")?;
     let (_, before) = prompt.highlight_line(alloc, line, line.len())?;
     let mut buffer = LineEditBuffer::empty(alloc);
-    for event in &events_named(alloc, name)? {
+    let events = events_named(alloc, name)?;
+    for event in &events {
         if prompt.resolve_action(alloc, event, &mut buffer)?.is_some() {
             return Err(Fail::from("an action"));
         }

@@ -3,7 +3,7 @@
 //! Use `Encoder` to write changes, and `scan` to read keys, without a device; `tw_device` has a terminal and events
 //! over both.
 //!
-//! From `crates/test_device/src/ansi.rt`:
+//! From `crates/test_prompt/src/devices/ansi.rt`:
 //!
 //! ```
 //! let mut encoder = Encoder::new(4);

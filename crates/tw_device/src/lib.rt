@@ -3,7 +3,7 @@
 //! Use `read_typed_line` to read a line from any `Read` and `Write`, and `read_line_from` with events or a terminal of
 //! your own; `Prompt` of `tw_prompt` is the same with all comforts.
 //!
-//! From `crates/test_device/src/wire.rt`:
+//! From `crates/test_prompt/src/devices/wire.rt`:
 //!
 //! ```
 //! let mut host = NopLineEditorHost::new(alloc);

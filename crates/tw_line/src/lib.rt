@@ -3,7 +3,7 @@
 //! Use it without an editor to edit a line that something else shows, or to write a history of your own
 //! (docs/GUIDE.md).
 //!
-//! From `crates/test_layers/src/line.rt`:
+//! From `crates/test_editor/src/layers/line.rt`:
 //!
 //! ```
 //! let mut buffer = LineEditBuffer::new(alloc, after, 0)?;

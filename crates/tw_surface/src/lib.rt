@@ -3,7 +3,7 @@
 //! A `ChangeSequence` measures a painting as it grows, and a `Screen` or a `ScrollingScreen` shows what it looks like.
 //! Use this crate to make changes for a terminal, or to see in a test what they show.
 //!
-//! From `crates/test_device/src/shown.rt`:
+//! From `crates/test_prompt/src/devices/shown.rt`:
 //!
 //! ```
 //! let mut screen = Screen::new(alloc, 4)?;

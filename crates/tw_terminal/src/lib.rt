@@ -2,7 +2,7 @@
 //!
 //! Implement `Terminal` to adapt a terminal of your own (docs/OWN_PARTS.md), and use `ScriptTerminal` in tests.
 //!
-//! From `crates/test_device/src/shown.rt`:
+//! From `crates/test_prompt/src/devices/shown.rt`:
 //!
 //! ```
 //! let size = ScreenSize { rows: 24, cols: 80 };

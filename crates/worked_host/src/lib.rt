@@ -3,7 +3,7 @@
 //!
 //! Copy its files to write a host of your own; docs/OWN_PARTS.md explains them.
 //!
-//! From `crates/test_device/src/commands.rt`:
+//! From `crates/test_prompt/src/devices/commands.rt`:
 //!
 //! ```
 //! let mut terminal = script_terminal(alloc, script)?;

@@ -18,15 +18,14 @@ fn parts(alloc: Global, text: &str) -> Result<Vec<String>, AllocError> {
 /// Creates the catalog of a database with three tables.
 fn catalog(alloc: Global) -> Result<Catalog, AllocError> {
     let mut tables = Vec::new(alloc);
-    for (name, columns) in [
+    for &(name, columns) in &[
         ("people", "id,name,height"),
         ("pets", "id,nick name,owner"),
         ("order", "number"),
     ] {
-        tables.push(SqlTable {
-            name: String::from_str(alloc, name)?,
-            columns: parts(alloc, columns)?,
-        })?;
+        let name = String::from_str(alloc, name)?;
+        let columns = parts(alloc, columns)?;
+        tables.push(SqlTable { name, columns })?;
     }
     let names = "height,id,name,nick name,number,order,owner,people,pets";
     Ok(Catalog {
@@ -40,7 +39,8 @@ fn answer(alloc: Global, word: &str, text: &str) -> Result<String, Fail> {
     let mut told = String::new(alloc);
     match word {
         "tokens" => {
-            for token in &tokenize(alloc, text)? {
+            let tokens = tokenize(alloc, text)?;
+            for token in &tokens {
                 write!(told, "{:?} {} ", token.kind, token.text)?;
             }
         }

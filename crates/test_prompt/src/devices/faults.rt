@@ -1,6 +1,6 @@
 //! Writes, flushes and reads that fail once, at a terminal and a reader that work again afterwards.
 
-use crate::application::rows_shown;
+use super::application::rows_shown;
 use std::alloc::Global;
 use std::io::{self, ErrorKind, Read, Write};
 use std::test::Fail;

@@ -1,6 +1,6 @@
 //! What a terminal shows each time that its reader is asked: no painting is kept back then.
 
-use crate::application::rows_shown;
+use super::application::rows_shown;
 use std::alloc::Global;
 use std::cell::Cell;
 use std::io::{self, Read, Write};

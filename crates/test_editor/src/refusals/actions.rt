@@ -164,7 +164,8 @@ fn actions_are_made_refused_in_turn(rt: HostRuntime) -> Result<(), Fail> {
     let alloc = rt.alloc();
     let mut host = ResolvingHost::new(alloc);
     let mut line = LineEditBuffer::new(alloc, "ab", 1)?;
-    for event in &events_named(alloc, "paste:g F1")? {
+    let events = events_named(alloc, "paste:g F1")?;
+    for event in &events {
         mark(alloc)?;
         let made = default_action(alloc, event);
         let resolved = host.resolve_action(alloc, event, &mut line);

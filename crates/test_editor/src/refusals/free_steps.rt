@@ -1,6 +1,6 @@
 //! Actions of an editor that make no request for memory.
 
-use crate::actions::play_steps;
+use super::actions::play_steps;
 use std::alloc::{AllocError, Global};
 use std::test::Fail;
 use test_cases::{events_named, expect_cases, mark, terminal_of};

@@ -1,6 +1,6 @@
 //! Painted lines, and the bytes that are sent for them.
 
-use crate::wire::Wire;
+use super::wire::Wire;
 use std::alloc::Global;
 use std::str;
 use std::test::Fail;

@@ -1,6 +1,6 @@
 //! The functions of an application, asked while a line is read.
 
-use crate::wire::Wire;
+use super::wire::Wire;
 use ecma_terminal::EcmaTerminal;
 use std::alloc::{AllocError, Global};
 use std::test::Fail;

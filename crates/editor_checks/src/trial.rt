@@ -1,12 +1,29 @@
-//! What is played.
+//! What is played. What stands more than once in a list is picked more often.
 
-use crate::device::keystrokes::keystrokes;
 use crate::host::MarkedHost;
-use crate::picks::{COLUMNS, PREVIEWS, PROMPTS};
+use crate::keystrokes::keystrokes;
 use crate::random_numbers::RandomNumbers;
 use crate::table::Entry;
 use std::alloc::{AllocError, Global};
 use tw_terminal::ScreenSize;
+
+/// Prompts.
+const PROMPTS: &[&str] = &["> ", "> ", "", "sh$ ", "a longer prompt: "];
+
+/// Lines under the line: printable ASCII, with CR LF between them.
+const PREVIEWS: &[&str] = &[
+    "",
+    "",
+    "",
+    "ok",
+    "a text that is longer",
+    "abcde\r\n\r\nfg",
+    "abcdef\r\n",
+    "\r\nabc",
+];
+
+/// Columns that the host gives in place of the cursor's own.
+const COLUMNS: &[Option<usize>] = &[None, None, None, None, None, None, Some(0), Some(19)];
 
 const LINES: &[&str] = &[
     "git log",

@@ -1,7 +1,6 @@
 //! What was played.
 
-use crate::device::shown::Found;
-use crate::numbered::write_numbers;
+use crate::shown::Found;
 use std::fmt;
 
 /// What was played, and what was found.
@@ -55,6 +54,14 @@ impl Count {
         self.skipped = self.skipped.saturating_add(other.skipped);
         self.differences = self.differences.saturating_add(other.differences);
     }
+}
+
+/// Writes numbers one after the other, each before its words.
+fn write_numbers<W: fmt::Write>(f: &mut fmt::Formatter<W>, numbers: &[(u64, &str)]) -> fmt::Result {
+    for (number, words) in numbers {
+        write!(f, "{number}{words}")?;
+    }
+    Ok(())
 }
 
 impl fmt::Display for Count {
