@@ -1,6 +1,6 @@
 //! What was played.
 
-use crate::shown::Found;
+use crate::device::shown::Found;
 use std::fmt;
 
 /// What was played, and what was found.

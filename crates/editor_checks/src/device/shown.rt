@@ -2,9 +2,9 @@
 
 ghost use Rattle.std.specs.Prelude.{◌<◌};
 
+use crate::device::trial::Trial;
 use crate::scrolling_table::ScrollingTable;
 use crate::table::{Entry, FILLING, Table};
-use crate::trial::Trial;
 use ecma_terminal::EcmaTerminal;
 use std::alloc::Global;
 use tw_changed::ScreenCell;
