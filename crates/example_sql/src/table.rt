@@ -28,15 +28,23 @@ pub fn visible(alloc: Global, text: &str) -> Result<String, AllocError> {
     Ok(shown)
 }
 
+/// Returns a value as a text.
+fn text_of(alloc: Global, value: ValueRef<'_>) -> Result<String, AllocError> {
+    match value {
+        ValueRef::Null => String::from_str(alloc, "NULL"),
+        ValueRef::Int(number) => format!(in alloc; "{number}"),
+        ValueRef::Real(number) => format!(in alloc; "{number:?}"),
+        ValueRef::Text(bytes) => String::from_utf8_lossy(alloc, bytes),
+        ValueRef::Blob(bytes) => {
+            let digits = encode_upper(alloc, bytes)?;
+            format!(in alloc; "X'{digits}'")
+        }
+    }
+}
+
 /// Returns what is shown of a value.
 fn field_of(alloc: Global, value: ValueRef<'_>) -> Result<Field, AllocError> {
-    let text = match value {
-        ValueRef::Null => String::from_str(alloc, "NULL")?,
-        ValueRef::Int(number) => format!(in alloc; "{number}")?,
-        ValueRef::Real(number) => format!(in alloc; "{number:?}")?,
-        ValueRef::Text(bytes) => String::from_utf8_lossy(alloc, bytes)?,
-        ValueRef::Blob(bytes) => format!(in alloc; "X'{}'", encode_upper(alloc, bytes)?)?,
-    };
+    let text = text_of(alloc, value)?;
     Ok(Field {
         text: visible(alloc, text.as_str())?,
         is_right: matches!(value, ValueRef::Int(_) | ValueRef::Real(_)),
