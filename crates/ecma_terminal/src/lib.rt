@@ -5,17 +5,16 @@
 //! From `crates/editor_checks/src/device/shown.rt`:
 //!
 //! ```
-//! let terminal = EcmaTerminal::new(alloc, rows, cols, first_cell(trial.entry))?;
+//! let terminal = EcmaTerminal::new(alloc, rows, cols, trial.entry.cell())?;
 //! ..
 //! self.terminal.receive_all(bytes)?;
 //! ..
-//! if self.terminal.cell(row, col) != table.cell(row, col) {
+//! if self.terminal.cell(row, col) != self.table.cell(row, col) {
 //! ```
 #![tactic(auto)]
 
 mod fault;
 mod grid;
-mod number;
 mod rendition;
 mod terminal;
 

@@ -1,14 +1,13 @@
 //! What a terminal selects by the parameters of SGR.
 
-ghost use Rattle.std.specs.Prelude.{◌≡◌, ◌<◌, ◌≤◌, ◌++◌, ◌∷◌, [], length, true, false, MatchOption};
-ghost use Rattle.std.specs.List.{position_or_len};
+ghost use Rattle.std.specs.Prelude.{◌≡◌, ◌<◌, ◌++◌, ◌∷◌, [], None, Some, length, ltb, if◌then◌else◌, true, false, MatchOption};
 ghost use Rattle.tw_surface.specs.declared.cell.CellAttributes.{CellAttributes};
 ghost use Rattle.tw_surface.specs.Attributes.{with_attribute};
-ghost use Rattle.tw_ansi.specs.KeyBytes.{is_semicolon};
+ghost use Rattle.tw_ansi.specs.KeyBytes.{value_after};
 ghost use Rattle.tw_ansi.specs.Selections.{colored, fields, select, selects, underlined, NoColor, Color};
 ghost use Rattle.ecma_terminal.specs.Colors.{fits_awaited, kind_of, numbers_in, selection_of, changed_by, selected_if_fit};
 
-use crate::number::{byte_of, number_of};
+use tw_ansi::{number_of, semicolon_at};
 use tw_surface::{AttributeChange, Blink, CellAttributes, ColorAttribute, Intensity, Underline};
 
 /// What a colour is for.
@@ -87,19 +86,6 @@ fn with_change(attributes: CellAttributes, change: AttributeChange) -> CellAttri
     let mut changed = attributes;
     changed.apply_change(&change);
     changed
-}
-
-/// Returns the bytes before the first semicolon.
-fn semicolon_at(bytes: &[u8]) -> usize
-    ensures value { result ≡ position_or_len is_semicolon bytes.now }
-    ensures bound { result ≤ length bytes.now }
-{
-    for (i, byte) in bytes.iter().enumerate() {
-        if *byte == b';' {
-            return i;
-        }
-    }
-    bytes.len()
 }
 
 /// Returns the first of some parameters, and those after its semicolon, if there is one.
@@ -232,6 +218,14 @@ fn colored(ground: Ground, numbers: Numbers, next: u8, attributes: CellAttribute
             Selection::of(with_change(attributes, ground.change(color)))
         }
     }
+}
+
+/// Returns the number that digits write, or none if it is above 255.
+fn byte_of(digits: &[u8]) -> Option<u8>
+    ensures { let value = value_after 0 digits.now in
+        result ≡ (if ltb value 256 then Some value else None) }
+{
+    u8::try_from(number_of(digits)).ok()
 }
 
 /// Takes one more parameter. Returns `None` if it is a number of a colour above 255.

@@ -1,11 +1,12 @@
 //! The terminal.
 
 ghost use Rattle.std.specs.Prelude.{◌≡◌, ◌<◌, ◌≤◌, ◌↔◌, ◌⊎◌, true, false, None, Some, Ok, Err, IfOk, IfErr, OnOk, OnErr};
+ghost use Rattle.std.specs.List.{list_all};
 ghost use Rattle.laws_screens.specs.Screens.{blank_of};
 ghost use Rattle.laws_screens.specs.StyledCells.{styled};
 ghost use Rattle.tw_ansi.specs.EcmaScreen.{act, act_by, feed_line, receive, receive_all, receive_text, return_to_start, step_back, told_steps, write, write_here};
 ghost use Rattle.tw_ansi.specs.EcmaScreen as terminal;
-ghost use Rattle.tw_ansi.specs.KeyBytes.{is_parameter};
+ghost use Rattle.tw_ansi.specs.KeyBytes.{is_digit, is_parameter};
 ghost use Rattle.tw_changed.specs.StyledScreens.{styled_cell};
 ghost use Rattle.ecma_terminal.specs.Grids.{grid_cell};
 ghost use Rattle.ecma_terminal.specs.Colors.{ends_in_large};
@@ -13,11 +14,11 @@ ghost use Rattle.ecma_terminal.specs.Terminals.{Becomes, HasNoSize, IsNew, IsRef
 
 use crate::fault::EcmaFault;
 use crate::grid::Grid;
-use crate::number::{are_digits, number_of};
 use crate::rendition::selected;
 use std::alloc::Global;
 use std::marker::Model;
 use std::mem;
+use tw_ansi::number_of;
 use tw_changed::ScreenCell;
 use tw_surface::{CellAttributes, ColorAttribute};
 
@@ -63,6 +64,13 @@ impl Model for EcmaTerminal {
 
     ghost invariant = { λ s. IsTerminal
         (record { grid = s.grid; row = s.row; col = s.col; waits = s.waits; attributes = s.attributes; reading = reading_of s.reading }) };
+}
+
+/// Returns true if all bytes are digits.
+fn are_digits(bytes: &[u8]) -> bool
+    ensures { result ≡ list_all is_digit bytes.now }
+{
+    bytes.iter().all(u8::is_ascii_digit)
 }
 
 /// Returns a number of steps: none written means one.

@@ -1,16 +1,14 @@
 //! Compares what is shown for the bytes of keys with a table whose cells are found by division.
 //! Without an argument it plays what the gate compares; `few` plays a part of it. It prints what it found.
 //!
-//! `device` plays the bytes. `table` is what a screen should hold, `scrolling_table` what one should that scrolls, and
-//! `painted` what a batch shows by its texts. `host` marks the cursor in the line. `random_numbers` makes numbers from
-//! a seed.
+//! `device` plays the bytes. `table` is what a screen should hold, and `painted` what a batch shows by its texts. `host`
+//! marks the cursor in the line. `random_numbers` makes numbers from a seed.
 #![tactic(auto)]
 
 mod device;
 mod host;
 mod painted;
 mod random_numbers;
-mod scrolling_table;
 mod table;
 
 use anyhow::anyhow;

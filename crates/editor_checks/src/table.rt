@@ -1,18 +1,15 @@
-//! What a screen is to hold. Each place is found by a division, and no cursor is moved.
+//! What a screen that scrolls is to hold. Each place is found by a division, and no cursor is moved.
 
 ghost use Rattle.std.specs.Prelude.{◌<◌};
 
-use crate::painted::PaintedTexts;
+use crate::painted::{Batch, PaintedTexts};
 use crate::random_numbers::RandomNumbers;
 use std::alloc::{AllocError, Global};
 use tw_changed::ScreenCell;
-use tw_surface::CellAttributes;
+use tw_surface::{CellAttributes, Change};
 
 /// The row at which a full screen is entered, where it has that row.
 const FULL_ENTRY: usize = 5;
-
-/// What fills a full screen.
-pub const FILLING: char = '#';
 
 /// How a screen is at first.
 #[derive(Debug, Clone, Copy)]
@@ -33,85 +30,133 @@ impl Entry {
         }
     }
 
-    /// Returns the row at which a screen is entered, of which `rows` rows are compared.
+    /// Returns the row at which a screen of `rows` rows is entered.
     pub fn row(self, rows: usize) -> usize {
         match self {
             Entry::Blank => 0,
             Entry::Full => FULL_ENTRY.min(rows.saturating_sub(1)),
         }
     }
-}
 
-/// What a cell is to hold: a character, in the mark of the line from its cursor on or in default attributes.
-#[derive(Clone, Copy)]
-struct TableCell {
-    character: char,
-    is_marked: bool,
-}
-
-impl TableCell {
-    /// Returns a character in default attributes.
-    fn plain(character: char) -> Self {
-        TableCell {
-            character,
-            is_marked: false,
-        }
-    }
-
-    /// Returns the character under its attributes. The mark is that of the host of this crate.
-    fn shown(self) -> ScreenCell {
-        ScreenCell {
-            character: self.character,
-            attributes: CellAttributes {
-                reverse: self.is_marked,
-                ..CellAttributes::default()
-            },
+    /// Returns what each cell of a screen holds at first.
+    pub fn cell(self) -> ScreenCell {
+        match self {
+            Entry::Blank => shown(' ', false),
+            Entry::Full => shown('#', false),
         }
     }
 }
 
-/// The cells of the first rows, and the cursor.
+/// Returns a character in default attributes, or in the mark that the host of this crate gives the line from its cursor
+/// on.
+fn shown(character: char, is_marked: bool) -> ScreenCell {
+    ScreenCell {
+        character,
+        attributes: CellAttributes {
+            reverse: is_marked,
+            ..CellAttributes::default()
+        },
+    }
+}
+
+/// The cells and the cursor of a screen.
 #[derive(Drop)]
 pub struct Table {
+    rows: usize,
     width: usize,
-    cells: Vec<TableCell>,
+    cells: Vec<ScreenCell>,
     first_row: usize,
     last_row: usize,
     cursor: (usize, usize),
+    is_known: bool,
     ghost some_columns: { 0 < width },
 }
 
 impl Table {
-    /// Creates a screen as it is at first, of which `rows` rows are compared.
+    /// Creates a screen as it is at first.
     pub fn new(alloc: Global, rows: usize, width: usize, entry: Entry) -> Result<Self, AllocError>
         requires { 0 < width }
     {
-        let filling = match entry {
-            Entry::Blank => ' ',
-            Entry::Full => FILLING,
-        };
         let first_row = entry.row(rows);
-        let cells = vec![in alloc; TableCell::plain(filling); width.saturating_mul(rows)]?;
         Ok(Table {
+            rows,
             width,
-            cells,
+            cells: vec![in alloc; entry.cell(); width.saturating_mul(rows)]?,
             first_row,
             last_row: first_row,
             cursor: (first_row, 0),
+            is_known: true,
         })
     }
 
+    /// Returns false after a painting that has more rows than the screen, until the screen is cleared.
+    pub fn is_known(&self) -> bool {
+        self.is_known
+    }
+
+    /// Returns where the cursor is to stand.
+    pub fn cursor(&self) -> (usize, usize) {
+        self.cursor
+    }
+
+    /// Returns what the cell at a row and a column is to hold, or none outside the screen.
+    pub fn cell(&self, row: usize, col: usize) -> Option<ScreenCell> {
+        if col >= self.width {
+            return None;
+        }
+        self.cells.get(self.index_of(row, col)).copied()
+    }
+
+    /// Plays a batch, where the host gives this column of the cursor, if any. It returns false for one of no known
+    /// form, and leaves all as it was.
+    pub fn take(&mut self, batch: &[Change], column: Option<usize>) -> bool {
+        match Batch::read(batch) {
+            Batch::Clears => self.clear(),
+            Batch::Paints(texts) => self.fit_and_paint(&texts, column),
+            Batch::Closes => self.close(),
+            Batch::Unknown => return false,
+        }
+        true
+    }
+
     /// Clears the whole screen, which is then entered at its first row.
-    pub fn clear(&mut self) {
-        self.first_row = 0;
-        self.last_row = 0;
-        self.cursor = (0, 0);
+    fn clear(&mut self) {
         self.clear_from(0);
+        self.enter(0);
+        self.is_known = true;
+    }
+
+    /// Paints the texts from the first row on, or from as far above as they need.
+    fn fit_and_paint(&mut self, texts: &PaintedTexts<'_>, column: Option<usize>) {
+        let needed = self.rows_of(texts, column);
+        if needed > self.rows {
+            self.is_known = false;
+            return;
+        }
+        let end = self.first_row.saturating_add(needed);
+        self.raise(end.saturating_sub(self.rows));
+        self.paint(texts, column);
+    }
+
+    /// Ends a reading. The next one enters the screen in the row under the last one, which is scrolled into sight.
+    fn close(&mut self) {
+        let under = self.next_row();
+        let row = under.min(self.rows.saturating_sub(1));
+        self.raise(under.saturating_sub(row));
+        self.clear_from(row);
+        self.enter(row);
+    }
+
+    /// Enters the screen at the first column of a row.
+    fn enter(&mut self, row: usize) {
+        self.first_row = row;
+        self.last_row = row;
+        self.cursor = (row, 0);
     }
 
     /// Returns how many rows a painting takes, down to its last one or to the cursor's. The column of the cursor is the
     /// one given, or else the number of characters before the cursor.
-    pub fn rows_of(&self, texts: &PaintedTexts<'_>, column: Option<usize>) -> usize {
+    fn rows_of(&self, texts: &PaintedTexts<'_>, column: Option<usize>) -> usize {
         let line = texts.prompt.len();
         let end = line
             .saturating_add(texts.front.len())
@@ -125,24 +170,17 @@ impl Table {
         last.max(cursor / self.width).saturating_add(1)
     }
 
-    /// Returns the row from which the next painting goes.
-    pub fn first_row(&self) -> usize {
-        self.first_row
-    }
-
     /// Returns the row under the last one that was painted.
-    pub fn next_row(&self) -> usize {
+    fn next_row(&self) -> usize {
         self.last_row.saturating_add(1)
     }
 
     /// Moves all up by `count` rows, and adds blank ones below.
-    pub fn raise(&mut self, count: usize) {
+    fn raise(&mut self, count: usize) {
         let gone = self.index_of(count, 0).min(self.cells.len());
         self.cells.rotate_left(gone);
         let kept = self.cells.len().saturating_sub(gone);
-        for cell in self.cells.iter_mut().skip(kept) {
-            *cell = TableCell::plain(' ');
-        }
+        self.blank_from(kept);
         self.first_row = self.first_row.saturating_sub(count);
         self.last_row = self.last_row.saturating_sub(count);
         self.cursor.0 = self.cursor.0.saturating_sub(count);
@@ -150,7 +188,7 @@ impl Table {
 
     /// Paints the texts from the row on where the screen was entered, and a blank after the line where it fills
     /// its last row. The column of the cursor is the one given, or else the number of characters before the cursor.
-    pub fn paint(&mut self, texts: &PaintedTexts<'_>, column: Option<usize>) {
+    fn paint(&mut self, texts: &PaintedTexts<'_>, column: Option<usize>) {
         let row = self.first_row;
         self.clear_from(row);
         let line = texts.prompt.len();
@@ -172,30 +210,6 @@ impl Table {
         }
     }
 
-    /// Ends the reading. The next one enters the screen in this row, under the last one.
-    pub fn close(&mut self, row: usize) {
-        self.clear_from(row);
-        self.first_row = row;
-        self.last_row = row;
-        self.cursor = (row, 0);
-    }
-
-    /// Returns where the cursor is to stand.
-    pub fn cursor(&self) -> (usize, usize) {
-        self.cursor
-    }
-
-    /// Returns what the cell at a row and a column is to hold, under its attributes, or none where it is not compared.
-    pub fn cell(&self, row: usize, col: usize) -> Option<ScreenCell> {
-        if col >= self.width {
-            return None;
-        }
-        match self.cells.get(self.index_of(row, col)) {
-            Some(cell) => Some(cell.shown()),
-            None => None,
-        }
-    }
-
     /// Returns the place `characters` characters after the start of a row.
     fn place(&self, row: usize, characters: usize) -> (usize, usize) {
         (
@@ -209,9 +223,12 @@ impl Table {
     }
 
     fn clear_from(&mut self, row: usize) {
-        let start = self.index_of(row, 0);
-        for cell in self.cells.iter_mut().skip(start) {
-            *cell = TableCell::plain(' ');
+        self.blank_from(self.index_of(row, 0));
+    }
+
+    fn blank_from(&mut self, index: usize) {
+        for cell in self.cells.iter_mut().skip(index) {
+            *cell = shown(' ', false);
         }
     }
 
@@ -221,10 +238,7 @@ impl Table {
             let (row, column) = self.place(row, before.saturating_add(index));
             let at = self.index_of(row, column);
             if let Some(cell) = self.cells.get_mut(at) {
-                *cell = TableCell {
-                    character: char::from(byte),
-                    is_marked,
-                };
+                *cell = shown(char::from(byte), is_marked);
             }
         }
     }

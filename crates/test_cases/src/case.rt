@@ -39,7 +39,7 @@ fn candidate_of(text: &str) -> Result<(usize, usize, &str), Fail> {
 
 /// Returns the case of lines `size ROWS COLS`, `history TEXT` for each line of the history, `preview TEXT`, `cand START
 /// END TEXT` for each candidate, `prompt TEXT`, `initial TEXT`, `events NAMES`, `readings COUNT`, `host NAME`, `show
-/// NAME` (`told_of`) and `fail CALL TAKEN`, each of which may be left out, and of steps (`steps_of`). A line `# TEXT`
+/// NAME` (`told_of`) and `fail CALL TAKEN`, each of which may be left out, and of steps (`take_steps`). A line `# TEXT`
 /// says what the case shows.
 pub fn case_of(alloc: Global, lines: &str) -> Result<Case<'_>, Fail> {
     let mut case = Case {

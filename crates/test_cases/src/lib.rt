@@ -45,10 +45,9 @@ pub use events::{
 pub use history_calls::play_history;
 pub use marks::{mark, mark_if};
 pub use outcome::told_of;
-pub use readings::refused_reading;
+pub use readings::read_refused;
 pub use resolving_host::ResolvingHost;
 pub use script_runs::play_script;
 pub use shown::{last_painting, marked_text, painted_text, rows};
-pub use steps::steps_of;
 pub use test_rows::{bytes_of, expect_rows, expect_runs, fault_text, parted};
 pub use told::{answer_text, batches_text, terminal_text, write_batch};

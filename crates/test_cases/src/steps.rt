@@ -1,7 +1,7 @@
 //! Steps of an editor outside a reading.
 
 use crate::actions::action_named;
-use crate::case::{Case, case_terminal};
+use crate::case::Case;
 use crate::cases::hold;
 use crate::marks::{mark, mark_if};
 use crate::told::answer_text;
@@ -182,22 +182,11 @@ fn take_step<H: LineEditorHost>(
     }
 }
 
-/// Takes the steps of a case with a new editor. Returns what came of them and the terminal. `line CURSOR TEXT` sets the
-/// line, `set CURSOR TEXT` too, between marks; `ask TEXT` sets the prompt; `remember TEXT` adds to the history; `act
+/// Takes the steps of a case with a new editor on this terminal, and returns what came of them. `line CURSOR TEXT` sets
+/// the line, `set CURSOR TEXT` too, between marks; `ask TEXT` sets the prompt; `remember TEXT` adds to the history; `act
 /// NAMES` applies the actions of these names; `do NAME` applies one between marks, and shows line and cursor, with its
 /// refusal if it is refused; `actions NAMES` applies each between marks, and shows line and cursor; `read` shows the
 /// answer of a reading.
-pub fn steps_of<H: LineEditorHost>(
-    alloc: Global,
-    case: &Case<'_>,
-    host: &mut H,
-) -> Result<(String, ScriptTerminal), Fail> {
-    let mut terminal = case_terminal(alloc, case)?;
-    let outcome = take_steps(alloc, case, host, &mut terminal)?;
-    Ok((outcome, terminal))
-}
-
-/// Takes the steps of a case with a new editor on this terminal, and returns what came of them.
 pub(crate) fn take_steps<H: LineEditorHost>(
     alloc: Global,
     case: &Case<'_>,

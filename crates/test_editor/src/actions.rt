@@ -1,9 +1,11 @@
-//! Actions on a line that is set, and candidates.
+//! Actions on a line that is set, and candidates. A request for memory that is refused leaves mode, index, typed line
+//! and cycle as they were: the later actions of a case come to the same.
 
 use crate::support::play;
 use std::alloc::Global;
 use std::test::Fail;
-use test_cases::expect_cases;
+use test_cases::{ResolvingHost, events_named, expect_cases, mark};
+use tw_lineedit::{Action, LineEditBuffer, LineEditorHost, default_action};
 
 const ACTIONS: &str = "\
 line 3 a b
@@ -30,14 +32,28 @@ do NoAction
 line 1 ab
 do InsertText 18446744073709551615 
 do InsertText 18446744073709551615 xy
+do InsertText 0 xy
 do InsertText 3 xy
 line 1 ab
-do InsertChar 2 !
+do InsertChar 18446744073709551615 !
+do InsertChar 9 !
 --
 \"ab\" at 1
 refusal 6, \"ab\" at 1
+\"ab\" at 1
 \"axyxyxyb\" at 7
-\"a!!b\" at 3
+refusal 6, \"ab\" at 1
+\"a!!!!!!!!!b\" at 10
+==
+# a refused line leaves the one before it, and a refused prompt is set again
+line 2 \u{e9}
+set 5 hello world
+do NoAction
+ask $ 
+read
+--
+\"hello world\" at 5
+Some(\"\")
 ==
 # end of file leaves the line
 line 1 ab
@@ -66,6 +82,27 @@ do Complete
 \"\u{e9}bc\" at 2
 \"a\u{6f22}c\" at 4
 \"e\\u{301}c\" at 3
+==
+# requests in a row go round the candidates
+cand 0 1 foo
+cand 0 1 far
+actions f Tab Tab Tab
+--
+\"foo\" at 3
+==
+history bc
+cand 0 1 foo
+cand 0 1 far
+actions C-R Tab Tab Left Tab
+--
+\"fooarc\" at 3
+==
+# without memory no candidate is put in
+cand 4 6 hello
+line 6 why he
+do Complete
+--
+\"why hello\" at 9
 ==
 # a candidate that does not fit leaves the one before it, until another action ends the round
 cand 0 1 foo
@@ -134,28 +171,51 @@ actions C-R g C-C
 --
 \"g\" at 1
 ==
-# requests in a row go round the candidates
-cand 0 1 foo
-cand 0 1 far
-events f Tab Tab Tab Enter
+history git log
+history ls
+history git push
+actions C-S g C-R C-S C-S Enter
 --
-Some(\"foo\")
+\"git push\" at 0
 ==
-cand 0 1 foo
-cand 0 1 far
-events f Tab Left Tab Enter
+history git log
+history ls
+actions C-R g Delete Backspace C-C
 --
-Some(\"foooo\")
+\"\" at 0
 ==
-cand 0 1 foo
-events f Tab Tab Enter
+# a kill takes memory only while searching
+history ab
+history b
+act C-R paste:ab
+do Kill BackwardChar 1
+act Enter
+do NoAction
 --
-Some(\"foooo\")
+\"a\" at 1
+\"ab\" at 0
+==
+# keys edit the line, and steps give the typed line back
+actions a b Left C-L X paste:yz C-E C-H
+--
+\"aXyz\" at 4
+==
+history one
+history two
+actions x Up Up Down Down
+--
+\"x\" at 1
+==
+history one
+history two
+actions x Up Up a Down Down
+--
+\"x\" at 1
 ==
 ";
 
 #[test]
-fn actions_change_the_line(rt: HostRuntime) -> Result<(), Fail> {
+fn actions_refused_in_turn(rt: HostRuntime) -> Result<(), Fail> {
     expect_cases(rt.alloc(), ACTIONS, play)
 }
 
@@ -230,4 +290,34 @@ refusal 5, \"\u{e9}ab\" at 3
 #[test]
 fn a_candidate_is_put_in_if_it_fits(rt: HostRuntime) -> Result<(), Fail> {
     expect_cases(rt.alloc(), CANDIDATES, play_completions)
+}
+
+/// What the key table and a host make of an event. A refused resolution leaves the line and its cursor.
+#[test]
+fn actions_are_made_refused_in_turn(rt: HostRuntime) -> Result<(), Fail> {
+    let alloc = rt.alloc();
+    let mut host = ResolvingHost::new(alloc);
+    let mut line = LineEditBuffer::new(alloc, "ab", 1)?;
+    let events = events_named(alloc, "paste:g F1")?;
+    for event in &events {
+        mark(alloc)?;
+        let made = default_action(alloc, event);
+        let resolved = host.resolve_action(alloc, event, &mut line);
+        mark(alloc)?;
+        if resolved.is_err() {
+            assert_eq!(rt; (line.get_line(), line.get_cursor()), ("ab", 1));
+            let _ = host.resolve_action(alloc, event, &mut line)?;
+        }
+        let made = made.or_else(|_| default_action(alloc, event))?;
+        assert!(rt; made.is_none() || is_insertion_of(&made, "g"));
+    }
+    assert_eq!(rt; (line.get_line(), line.get_cursor()), ("clear", 5));
+    Ok(())
+}
+
+fn is_insertion_of(action: &Option<Action>, wanted: &str) -> bool {
+    match action {
+        Some(Action::InsertText(1, text)) => text.as_str() == wanted,
+        _ => false,
+    }
 }

@@ -4,7 +4,7 @@ use crate::support::play;
 use std::test::Fail;
 use test_cases::expect_cases;
 
-const SEARCHES: &str = "\
+pub const SEARCHES: &str = "\
 # a search shows the matching line above its pattern
 size 24 16
 history git log

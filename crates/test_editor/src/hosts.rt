@@ -70,7 +70,7 @@ fn hosts_answer_for_themselves(rt: HostRuntime) -> Result<(), Fail> {
     expect_cases(rt.alloc(), HOSTS, play)
 }
 
-const SCREENS: &str = "\
+pub const SCREENS: &str = "\
 # paintings leave nothing stale
 size 24 10
 initial abcdefgh

@@ -3,7 +3,6 @@
 
 mod cell;
 mod error;
-mod expected;
 mod history;
 mod input;
 mod line;
@@ -12,4 +11,5 @@ mod screen;
 mod scrolling_screen;
 mod sequence;
 mod statements;
+mod support;
 mod terminal;

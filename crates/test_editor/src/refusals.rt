@@ -1,7 +1,6 @@
 //! Calls whose requests for memory are refused, each in turn, and calls that make none. `.ci/refusals` runs these tests
 //! with a request refused between their marks; by themselves they pass too.
 
-mod actions;
 mod buffers;
 mod drawings;
 mod free_steps;

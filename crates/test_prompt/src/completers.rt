@@ -79,8 +79,7 @@ fn add_commands(alloc: Global, prompt: &mut Prompt) -> Result<(), Fail> {
 }
 
 /// Returns the candidates at the end of a line, each after the offset of the text that it replaces.
-fn offered_by(alloc: Global, prompt: &mut Prompt, line: &str) -> Result<String, Fail> {
-    add_commands(alloc, prompt)?;
+fn offered_by(alloc: Global, prompt: &Prompt, line: &str) -> Result<String, Fail> {
     let mut output = String::new(alloc);
     let candidates = prompt.complete(alloc, line, line.len())?;
     for candidate in &candidates {
@@ -89,9 +88,15 @@ fn offered_by(alloc: Global, prompt: &mut Prompt, line: &str) -> Result<String, 
     Ok(String::from_str(alloc, output.trim_end())?)
 }
 
+/// Returns those of a prompt that gets the commands first.
+fn offered_with_commands(alloc: Global, prompt: &mut Prompt, line: &str) -> Result<String, Fail> {
+    add_commands(alloc, prompt)?;
+    offered_by(alloc, prompt, line)
+}
+
 /// Returns those of a new prompt.
 fn offers(alloc: Global, line: &str) -> Result<String, Fail> {
-    offered_by(alloc, &mut new_prompt(alloc)?, line)
+    offered_with_commands(alloc, &mut new_prompt(alloc)?, line)
 }
 
 const LINES: &str = r"

@@ -25,8 +25,8 @@ pub fn parameters_len(bytes: &[u8]) -> usize
     bytes.len()
 }
 
-/// Returns the bytes before the first semicolon.
-fn semicolon_at(bytes: &[u8]) -> usize
+/// Returns the offset of the first semicolon, or the number of bytes if there is none.
+pub fn semicolon_at(bytes: &[u8]) -> usize
     ensures value { result ≡ position_or_len is_semicolon bytes.now }
     ensures bound { result ≤ length bytes.now }
 {
@@ -38,8 +38,8 @@ fn semicolon_at(bytes: &[u8]) -> usize
     bytes.len()
 }
 
-/// Returns the number that digits write, or the greatest one in place of one above it.
-fn number_of(digits: &[u8]) -> u32
+/// Returns the number that digits write, or 4,294,967,295 in place of one above it.
+pub fn number_of(digits: &[u8]) -> u32
     ensures { result ≡ number_of digits.now }
 {
     let mut number: u32 = 0;

@@ -23,6 +23,7 @@ mod sequence;
 mod strings;
 mod token;
 
+pub use control::{number_of, semicolon_at};
 pub use decode::scan;
 pub use encode::Encoder;
 pub use resume::{Progress, scan_on};

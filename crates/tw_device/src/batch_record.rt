@@ -45,12 +45,12 @@ impl BatchRecord {
         }
     }
 
-    /// Writes a reset of all attributes and a text, to a terminal of which this is known. A refusal may have written a
+    /// Writes a reset of all attributes and `text` to a terminal of which `encoder` knows. A refusal may have written a
     /// beginning of both.
     pub fn send<W: Write>(
         &mut self,
         writer: &mut W,
-        encoder: Encoder,
+        mut encoder: Encoder,
         text: &str,
     ) -> Result<(), TerminalFault>
         ensures sent { let bytes = set_attributes default_attributes ++ text.now in
@@ -59,7 +59,6 @@ impl BatchRecord {
             ≡ record self.old { encoder = without_attributes encoder }) }
         ensures err { OnErr result (self.new ≡ self.old) }
     {
-        let mut encoder = encoder;
         write_text(writer, encoder.reset())?;
         write_text(writer, text)?;
         self.encoder = encoder;
@@ -119,10 +118,9 @@ pub fn write_text<W: Write>(writer: &mut W, text: &str) -> Result<(), TerminalFa
     ensures sent { OnOk result (Appends (W.contents writer.old) (W.contents writer.new) text.now) }
     ensures failed { IfErr result (λ fault. fault ≡ Device) }
 {
-    match writer.write_all(text.as_bytes()) {
-        Ok(()) => Ok(()),
-        Err(_) => Err(TerminalFault::Device),
-    }
+    writer
+        .write_all(text.as_bytes())
+        .map_err(|_| TerminalFault::Device)
 }
 
 /// Appends what a batch is sent as, and returns what is then known.

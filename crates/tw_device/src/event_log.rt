@@ -1,11 +1,11 @@
 //! The events that a source told.
 
-ghost use Rattle.std.specs.Prelude.{◌≡◌, ◌∷◌, [], ◌++◌};
-ghost use Rattle.tw_input.specs.EventView.{event_view};
+ghost use Rattle.std.specs.Prelude.{◌≡◌, [], ◌++◌};
+ghost use Rattle.tw_device.specs.Told.{answer_events};
 
 use std::marker::Model;
 use tw_input::InputEvent;
-use tw_terminal::Log;
+use tw_terminal::{Log, TerminalFault};
 
 /// The events that a source told, in order, as its `EventSource::told` needs them.
 #[derive(Drop)]
@@ -30,12 +30,12 @@ impl EventLog {
         EventLog { events: Log::new() }
     }
 
-    /// Returns the log with one more event.
-    pub fn with_event(&self, event: &InputEvent) -> Self
-        ensures { result ≡ self.now ++ event_view event.now ∷ [] }
+    /// Adds the event of an answer, if it has one.
+    pub fn note(&mut self, answer: &Result<Option<InputEvent>, TerminalFault>)
+        ensures { self.new ≡ self.old ++ answer_events answer.now }
     {
-        EventLog {
-            events: self.events.with_item(event),
+        if let Ok(Some(event)) = answer {
+            self.events = self.events.with_item(event);
         }
     }
 }

@@ -32,6 +32,21 @@ pub enum SourceState {
     Refused(TerminalFault),
 }
 
+impl SourceState {
+    /// Returns the state of a source that gave this answer.
+    pub fn after(answer: &Result<Option<InputEvent>, TerminalFault>) -> Self
+        ensures ok { IfOk answer.now (λ event. MatchOption event (result ≡ AtEnd)
+            (λ _. result ≡ Going)) }
+        ensures err { IfErr answer.now (λ fault. result ≡ HasRefused fault) }
+    {
+        match answer {
+            Ok(Some(_)) => SourceState::Going,
+            Ok(None) => SourceState::AtEnd,
+            Err(fault) => SourceState::Refused(*fault),
+        }
+    }
+}
+
 /// A source of events, as its contracts see it: the events that it told so far, and what it answered last.
 pub trait EventSource {
     ghost use Rattle.std.specs.Prelude.{Bool};
@@ -256,21 +271,10 @@ impl<R: Read> EventSource for KeyReader<R> {
         ensures at_hand { is_at_hand (held_by R.remaining self.old) ≡ true → self.new.reader
             ≡ self.old.reader }
     {
-        match self.find() {
-            Ok(Some(event)) => {
-                self.told = self.told.with_event(&event);
-                self.state = SourceState::Going;
-                Ok(Some(event))
-            }
-            Ok(None) => {
-                self.state = SourceState::AtEnd;
-                Ok(None)
-            }
-            Err(fault) => {
-                self.state = SourceState::Refused(fault);
-                Err(fault)
-            }
-        }
+        let answer = self.find();
+        self.told.note(&answer);
+        self.state = SourceState::after(&answer);
+        answer
     }
 
     /// Returns true if a key or a pasted text stands whole at the front of what was read. A size does not count, since

@@ -44,6 +44,17 @@ pub struct PromptEvents<S> {
     told: EventLog,
 }
 
+/// Returns true if a Wake comes after an answer: it is the key that gives a search up.
+fn wakes_after(answer: &Result<Option<InputEvent>, TerminalFault>) -> bool
+    ensures { woken_all (answer_events answer.now)
+        ≡ answer_events answer.now ++ wake_if result }
+{
+    match answer {
+        Ok(Some(event)) => gives_up(event),
+        _ => false,
+    }
+}
+
 /// The events of what is typed at a terminal.
 pub type TypedEvents<R, C> = PromptEvents<KeyReader<Typed<R, C>>>;
 
@@ -246,27 +257,17 @@ impl<S: EventSource> EventSource for PromptEvents<S> {
 
     fn next_event(&mut self) -> Result<Option<InputEvent>, TerminalFault> {
         if self.wakes {
+            let answer = Ok(Some(InputEvent::Wake));
             self.wakes = false;
-            self.told = self.told.with_event(&InputEvent::Wake);
+            self.told.note(&answer);
             self.state = SourceState::Going;
-            return Ok(Some(InputEvent::Wake));
+            return answer;
         }
-        match self.find() {
-            Ok(Some(event)) => {
-                self.wakes = gives_up(&event);
-                self.told = self.told.with_event(&event);
-                self.state = SourceState::Going;
-                Ok(Some(event))
-            }
-            Ok(None) => {
-                self.state = SourceState::AtEnd;
-                Ok(None)
-            }
-            Err(fault) => {
-                self.state = SourceState::Refused(fault);
-                Err(fault)
-            }
-        }
+        let answer = self.find();
+        self.wakes = wakes_after(&answer);
+        self.told.note(&answer);
+        self.state = SourceState::after(&answer);
+        answer
     }
 
     fn has_at_hand(&self) -> bool {

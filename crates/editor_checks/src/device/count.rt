@@ -56,28 +56,20 @@ impl Count {
     }
 }
 
-/// Writes numbers one after the other, each before its words.
-fn write_numbers<W: fmt::Write>(f: &mut fmt::Formatter<W>, numbers: &[(u64, &str)]) -> fmt::Result {
-    for (number, words) in numbers {
-        write!(f, "{number}{words}")?;
-    }
-    Ok(())
-}
-
 impl fmt::Display for Count {
     fn fmt<W: fmt::Write>(&self, f: &mut fmt::Formatter<W>) -> fmt::Result {
-        write_numbers(
-            f,
-            &[
-                (self.strings, " strings of "),
-                (self.typed, " bytes, "),
-                (self.readings, " readings, "),
-                (self.batches, " batches in "),
-                (self.bytes, " bytes, "),
-                (self.cells, " cells compared, "),
-                (self.skipped, " batches too high, "),
-                (self.differences, " differences"),
-            ],
-        )
+        for (number, words) in &[
+            (self.strings, " strings of "),
+            (self.typed, " bytes, "),
+            (self.readings, " readings, "),
+            (self.batches, " batches in "),
+            (self.bytes, " bytes, "),
+            (self.cells, " cells compared, "),
+            (self.skipped, " batches too high, "),
+            (self.differences, " differences"),
+        ] {
+            write!(f, "{number}{words}")?;
+        }
+        Ok(())
     }
 }

@@ -33,27 +33,6 @@ impl Read for Pieces<'_> {
     }
 }
 
-/// A reader that gives all bytes at once.
-#[derive(Drop)]
-pub struct Whole<'a>(&'a [u8]);
-
-impl<'a> Whole<'a> {
-    /// Creates a reader of these bytes.
-    pub fn new(bytes: &'a [u8]) -> Self {
-        Whole(bytes)
-    }
-}
-
-impl Read for Whole<'_> {
-    fn read(&mut self, buf: &mut [u8]) -> io::Result<usize> {
-        let len = buf.len().min(self.0.len());
-        let (piece, rest) = self.0.split_at(len);
-        buf[..len].copy_from_slice(piece);
-        self.0 = rest;
-        Ok(len)
-    }
-}
-
 /// What was written, write by write.
 #[derive(Drop)]
 pub struct Writes {

@@ -1,6 +1,6 @@
 //! The two editors: one reads bytes and writes bytes, and the other is told the same keys.
 
-use crate::device::ends::{Pieces, Recorder, Whole, Writes};
+use crate::device::ends::{Pieces, Recorder, Writes};
 use crate::device::trial::Trial;
 use crate::host::MarkedHost;
 use std::alloc::Global;
@@ -65,15 +65,15 @@ fn read_typed_lines(
 
 /// Returns the keys that the bytes of a trial are, all at once.
 pub fn keys_of(alloc: Global, trial: &Trial) -> Result<Vec<InputEvent>, anyhow::Error> {
-    let whole = Whole::new(trial.bytes.as_slice());
-    let mut keys = KeyReader::new(alloc, whole).with_escape(Escape::Waits);
+    let bytes = trial.bytes.as_slice();
+    let mut keys = KeyReader::new(alloc, bytes).with_escape(Escape::Waits);
     all_events(alloc, &mut keys)
 }
 
 /// Returns the events up to the end of the bytes.
 fn all_events(
     alloc: Global,
-    keys: &mut KeyReader<Whole<'_>>,
+    keys: &mut KeyReader<&[u8]>,
 ) -> Result<Vec<InputEvent>, anyhow::Error> {
     let mut events = Vec::new(alloc);
     for _ in 0..u64::MAX {

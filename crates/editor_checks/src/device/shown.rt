@@ -3,18 +3,16 @@
 ghost use Rattle.std.specs.Prelude.{◌<◌};
 
 use crate::device::trial::Trial;
-use crate::scrolling_table::ScrollingTable;
-use crate::table::{Entry, FILLING, Table};
+use crate::table::{Entry, Table};
 use ecma_terminal::EcmaTerminal;
 use std::alloc::Global;
-use tw_changed::ScreenCell;
-use tw_surface::{CellAttributes, Change, ColorAttribute};
+use tw_surface::Change;
 
 /// A terminal after ECMA-48, and beside it what it is to hold.
 #[derive(Drop)]
 pub struct Shown {
     terminal: EcmaTerminal,
-    table: ScrollingTable,
+    table: Table,
 }
 
 /// What was found after a batch.
@@ -28,24 +26,13 @@ pub enum Found {
     Unknown,
 }
 
-/// Returns what each cell of a screen holds at first.
-fn first_cell(entry: Entry) -> ScreenCell {
-    match entry {
-        Entry::Blank => ScreenCell::blank(ColorAttribute::Default),
-        Entry::Full => ScreenCell {
-            character: FILLING,
-            attributes: CellAttributes::default(),
-        },
-    }
-}
-
 impl Shown {
     /// Creates the screen of a trial, with the cursor in the first row.
     pub fn new(alloc: Global, trial: &Trial) -> Result<Self, anyhow::Error> {
         let rows = trial.size.rows;
         let cols = trial.size.cols;
-        let terminal = EcmaTerminal::new(alloc, rows, cols, first_cell(trial.entry))?;
-        let table = ScrollingTable::new(alloc, rows, cols, trial.entry)?;
+        let terminal = EcmaTerminal::new(alloc, rows, cols, trial.entry.cell())?;
+        let table = Table::new(alloc, rows, cols, trial.entry)?;
         Ok(Shown { terminal, table })
     }
 
@@ -68,25 +55,25 @@ impl Shown {
         if !self.table.take(batch, column) {
             return Ok(Found::Unknown);
         }
-        Ok(match self.table.known() {
-            Some(table) => self.compared(table),
-            None => Found::TooHigh,
-        })
+        if !self.table.is_known() {
+            return Ok(Found::TooHigh);
+        }
+        Ok(self.compared())
     }
 
     /// Compares each cell and the cursor. A cursor that stands elsewhere, or waits, counts as one cell.
-    fn compared(&self, table: &Table) -> Found {
+    fn compared(&self) -> Found {
         let mut cells: usize = 0;
         let mut differences: usize = 0;
         for row in 0..self.terminal.rows() {
             for col in 0..self.terminal.cols() {
                 cells = cells.saturating_add(1);
-                if self.terminal.cell(row, col) != table.cell(row, col) {
+                if self.terminal.cell(row, col) != self.table.cell(row, col) {
                     differences = differences.saturating_add(1);
                 }
             }
         }
-        if self.terminal.cursor() != table.cursor() || self.terminal.waits() {
+        if self.terminal.cursor() != self.table.cursor() || self.terminal.waits() {
             differences = differences.saturating_add(1);
         }
         Found::Compared { cells, differences }

@@ -1,6 +1,6 @@
 //! The texts of faults, and what the editor answers in place of a line.
 
-use super::expected::expect;
+use super::support::expect;
 use std::alloc::{AllocError, AllocFailed, Global};
 use std::test::Fail;
 use test_cases::expect_rows;

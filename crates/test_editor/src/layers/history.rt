@@ -1,6 +1,6 @@
 //! Histories, and what is found in their lines.
 
-use super::expected::expect;
+use super::support::expect;
 use std::alloc::{AllocError, Global};
 use std::borrow::CowStr;
 use std::test::Fail;

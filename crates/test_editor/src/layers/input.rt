@@ -4,7 +4,7 @@ ghost use Rattle.std.specs.Prelude.{◌≡◌, ◌↔◌, IfSome, IsSome};
 ghost use Rattle.std.specs.Int.RustNames.{bit_and};
 ghost use Rattle.tw_input.specs.Modifiers.{modifier_bits};
 
-use super::expected::expect;
+use super::support::expect;
 use bitflags::Flags;
 use std::alloc::Global;
 use std::test::Fail;

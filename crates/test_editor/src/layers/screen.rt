@@ -1,5 +1,6 @@
 //! What a screen shows, and how many cells it keeps.
 
+use super::support::{place_text, renew};
 use std::alloc::Global;
 use std::test::Fail;
 use test_cases::{change_of, expect_runs, fault_text, pair_of};
@@ -52,10 +53,7 @@ fn write_lines(alloc: Global, screen: &mut Screen, count: usize) -> Result<(), F
 fn obey(alloc: Global, screen: &mut Screen, command: &str) -> Result<String, Fail> {
     let (word, rest) = command.split_once(' ').unwrap_or((command, ""));
     Ok(match word {
-        "cursor" => {
-            let (row, col) = screen.cursor();
-            format!(in alloc; "{row} {col}")?
-        }
+        "cursor" => place_text(alloc, screen.cursor())?,
         "cells" => cells(alloc, screen)?,
         "last" => format!(in alloc; "{:?}", screen.last_row())?,
         "kept" => kept(alloc, screen)?,
@@ -75,13 +73,7 @@ fn obey(alloc: Global, screen: &mut Screen, command: &str) -> Result<String, Fai
             write_lines(alloc, screen, rest.parse()?)?;
             String::new(alloc)
         }
-        "new" => match Screen::new(alloc, rest.parse()?) {
-            Ok(new) => {
-                *screen = new;
-                String::new(alloc)
-            }
-            Err(fault) => format!(in alloc; "{fault:?}")?,
-        },
+        "new" => renew(alloc, screen, Screen::new(alloc, rest.parse()?))?,
         _ => fault_text(alloc, &screen.apply(&change_of(alloc, command)?))?,
     })
 }

@@ -1,5 +1,6 @@
 //! What a screen with a last row shows.
 
+use super::support::{place_text, renew};
 use std::alloc::Global;
 use std::test::Fail;
 use test_cases::{change_of, expect_runs, fault_text, pair_of};
@@ -27,10 +28,7 @@ fn obey(alloc: Global, screen: &mut ScrollingScreen, command: &str) -> Result<St
                 screen.char_at(2, 0)
             )?
         }
-        "cursor" => {
-            let (row, col) = screen.cursor();
-            format!(in alloc; "{row} {col}")?
-        }
+        "cursor" => place_text(alloc, screen.cursor())?,
         "char" => {
             let (row, col) = pair_of(rest)?;
             format!(in alloc; "{:?}", screen.char_at(row, col))?
@@ -41,13 +39,7 @@ fn obey(alloc: Global, screen: &mut ScrollingScreen, command: &str) -> Result<St
         }
         "new" => {
             let (rows, width) = pair_of(rest)?;
-            match ScrollingScreen::new(alloc, rows, width) {
-                Ok(new) => {
-                    *screen = new;
-                    String::new(alloc)
-                }
-                Err(fault) => format!(in alloc; "{fault:?}")?,
-            }
+            renew(alloc, screen, ScrollingScreen::new(alloc, rows, width))?
         }
         _ => fault_text(alloc, &screen.apply(&change_of(alloc, command)?))?,
     })

@@ -1,5 +1,6 @@
 //! Places of texts and moves, and refusals.
 
+use super::support::renew;
 use std::alloc::Global;
 use std::mem;
 use std::test::Fail;
@@ -33,13 +34,7 @@ fn obey(alloc: Global, sequence: &mut ChangeSequence, command: &str) -> Result<S
         }
         "new" => {
             let (rows, cols) = pair_of(rest)?;
-            match ChangeSequence::new(alloc, rows, cols) {
-                Ok(new) => {
-                    *sequence = new;
-                    String::new(alloc)
-                }
-                Err(fault) => format!(in alloc; "{fault:?}")?,
-            }
+            renew(alloc, sequence, ChangeSequence::new(alloc, rows, cols))?
         }
         _ => fault_text(alloc, &sequence.add(change_of(alloc, command)?))?,
     })

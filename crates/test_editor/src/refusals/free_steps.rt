@@ -1,15 +1,20 @@
 //! Actions of an editor that make no request for memory.
 
-use super::actions::play_steps;
+use crate::support::play_with;
 use std::alloc::{AllocError, Global};
 use std::test::Fail;
-use test_cases::{events_named, expect_cases, mark, terminal_of};
+use test_cases::{case_of, events_named, expect_cases, mark, terminal_of};
 use tw_hosts::{Binding, KeyBinding, Styles, TableHost, Tables};
 use tw_input::{InputEvent, KeyCode, KeyEvent, Modifiers};
 use tw_lineedit::{
     Action, BasicHistory, LineEditBuffer, LineEditor, LineEditorHost, LineStatus, NopLineEditorHost,
 };
 use tw_surface::CellAttributes;
+
+/// Takes the steps of a case.
+fn play_steps(alloc: Global, lines: &str) -> Result<String, Fail> {
+    play_with(alloc, &case_of(alloc, lines)?, BasicHistory::new(alloc))
+}
 
 const HOST: &str = "history git log\nhistory ls\ncand 0 1 foo\ncand 0 1 far\n";
 

@@ -1,30 +1,38 @@
 //! Lines that are read, with each request refused in turn.
 
+use crate::histories::SEARCHES;
+use crate::hosts::SCREENS;
+use crate::support::play;
 use std::alloc::Global;
 use std::test::Fail;
 use test_cases::{
-    ColumnHost, ResolvingHost, case_of, expect_cases, host_of, refused_reading, remember_all,
+    Case, ColumnHost, ResolvingHost, case_of, expect_cases, host_of, read_refused, remember_all,
 };
 use tw_lineedit::{BasicHistory, NopLineEditorHost};
 
 /// Reads the last line of a case over its host: `column COLUMN` and `resolving` are hosts of their own, and a case
 /// without preview and candidates has the default one.
-fn play_reading(alloc: Global, lines: &str) -> Result<String, Fail> {
-    let case = case_of(alloc, lines)?;
+fn read_case(alloc: Global, case: &Case<'_>) -> Result<(), Fail> {
     if let Some(column) = case.host.strip_prefix("column ") {
         let mut host = ColumnHost::new(alloc, column.parse()?);
-        return refused_reading(alloc, &case, &mut host);
+        return read_refused(alloc, case, &mut host);
     }
     if case.host == "resolving" {
-        return refused_reading(alloc, &case, &mut ResolvingHost::new(alloc));
+        return read_refused(alloc, case, &mut ResolvingHost::new(alloc));
     }
     if case.preview.is_empty() && case.candidates.is_empty() {
         let mut host = NopLineEditorHost::new(alloc);
         remember_all(&mut host, case.history.as_slice())?;
-        return refused_reading(alloc, &case, &mut host);
+        return read_refused(alloc, case, &mut host);
     }
-    let mut host = host_of(alloc, BasicHistory::new(alloc), &case)?;
-    refused_reading(alloc, &case, &mut host)
+    let mut host = host_of(alloc, BasicHistory::new(alloc), case)?;
+    read_refused(alloc, case, &mut host)
+}
+
+/// Reads the last line of a case with each request refused in turn, and returns what comes of the case without.
+fn play_reading(alloc: Global, lines: &str) -> Result<String, Fail> {
+    read_case(alloc, &case_of(alloc, lines)?)?;
+    play(alloc, lines)
 }
 
 const TYPED: &str = "\
@@ -35,16 +43,6 @@ Some(\"aXb\")
 initial hi
 --
 Some(\"hi\")
-==
-size 24 10
-initial abcdefgh
---
-Some(\"abcdefgh\")
-==
-size 24 5
-events a b c d e f Home Delete
---
-Some(\"bcdef\")
 ==
 size 24 10
 events a b c d e f g h i j C-L Enter
@@ -68,12 +66,24 @@ size 24 10
 events a Enter b Enter
 readings 2
 --
-Some(\"b\")
+Some(\"a\"), Some(\"b\")
+==
+history one
+history two
+events x Up Up Down Down Enter
+--
+Some(\"x\")
+==
+history one
+history two
+events x Up Up Down Down Down Enter
+--
+Some(\"x\")
 ==
 ";
 
 #[test]
-fn typed_lines_refused_in_turn(rt: HostRuntime) -> Result<(), Fail> {
+fn typed_lines_and_walks_refused_in_turn(rt: HostRuntime) -> Result<(), Fail> {
     expect_cases(rt.alloc(), TYPED, play_reading)
 }
 
@@ -85,7 +95,7 @@ refusal 3
 size 24 0
 readings 2
 --
-refusal 3
+refusal 3, refusal 3
 ==
 size 24 65535
 --
@@ -120,96 +130,34 @@ fn sizes_and_faulty_terminals_refused_in_turn(rt: HostRuntime) -> Result<(), Fai
     expect_cases(rt.alloc(), SIZES, play_reading)
 }
 
-const SEARCHES: &str = "\
-history one
-history two
-events x Up Up Down Down Enter
---
-Some(\"x\")
-==
-history one
-history two
-events x Up Up Down Down Down Enter
---
-Some(\"x\")
-==
-events a b C-R Enter
---
-Some(\"\")
-==
-size 24 16
-history git log
-history ls
-events C-R g
---
-Some(\"g\")
-==
-size 24 16
-history git log
-history ls
-events C-R g Enter
---
-Some(\"git log\")
-==
-size 24 16
-history git log
-history ls
-events C-R g C-C
---
-None
-==
-history git log
-history ls
-history git push
-events C-S g C-R Enter
---
-Some(\"git log\")
-==
-history git log
-history ls
-history git push
-events C-S g C-R C-S C-S Enter
---
-Some(\"git push\")
-==
-history one
-events C-S C-R
---
-Some(\"\")
-==
-history git log
-history ls
-prompt $ 
-events C-R paste:g Backspace Enter
---
-Some(\"ls\")
-==
-";
-
 #[test]
-fn walks_and_searches_refused_in_turn(rt: HostRuntime) -> Result<(), Fail> {
+fn searches_refused_in_turn(rt: HostRuntime) -> Result<(), Fail> {
     expect_cases(rt.alloc(), SEARCHES, play_reading)
 }
 
+#[test]
+fn paintings_refused_in_turn(rt: HostRuntime) -> Result<(), Fail> {
+    expect_cases(rt.alloc(), SCREENS, play_reading)
+}
+
 const HOSTS: &str = "\
-# previews and candidates
+# requests in a row go round the candidates
 cand 0 1 foo
 cand 0 1 far
 events f Tab Tab Tab Enter
 --
 Some(\"foo\")
 ==
-size 24 10
-preview ok
-initial abcdefgh
+cand 0 1 foo
+cand 0 1 far
+events f Tab Left Tab Enter
 --
-Some(\"abcdefgh\")
+Some(\"foooo\")
 ==
-# placed cursors
-size 24 10
-host column 25
+cand 0 1 foo
+events f Tab Tab Enter
 --
-Some(\"\")
+Some(\"foooo\")
 ==
 size 24 10
 host column 18446744073709551615

@@ -1,6 +1,6 @@
 //! Lines that are read at a device.
 
-ghost use Rattle.std.specs.Prelude.{◌==◌, length, not};
+ghost use Rattle.std.specs.Prelude.{◌≡◌, ◌==◌, length, not};
 
 use std::alloc::{AllocError, Global};
 use std::io;
@@ -36,6 +36,21 @@ impl<'a> Typed<'a> {
             told: EventLog::new(),
         }
     }
+
+    /// Takes the next character, or refuses.
+    fn answer(&mut self) -> Result<Option<InputEvent>, TerminalFault>
+        ensures { self.new.told ≡ self.old.told }
+    {
+        self.asked = self.asked.saturating_add(1);
+        if self.asked == self.refused_call {
+            return Err(TerminalFault::Device);
+        }
+        let Some((first, rest)) = self.characters.split_first() else {
+            return Ok(None);
+        };
+        self.characters = rest;
+        Ok(Some(event_of(*first)))
+    }
 }
 
 /// Returns the event of a character.
@@ -59,24 +74,10 @@ impl EventSource for Typed<'_> {
     ghost at_hand = { λ it. not (length it.characters.now == 0) };
 
     fn next_event(&mut self) -> Result<Option<InputEvent>, TerminalFault> {
-        self.asked = self.asked.saturating_add(1);
-        if self.asked == self.refused_call {
-            self.state = SourceState::Refused(TerminalFault::Device);
-            return Err(TerminalFault::Device);
-        }
-        match self.characters.split_first() {
-            Some((first, rest)) => {
-                let event = event_of(*first);
-                self.characters = rest;
-                self.told = self.told.with_event(&event);
-                self.state = SourceState::Going;
-                Ok(Some(event))
-            }
-            None => {
-                self.state = SourceState::AtEnd;
-                Ok(None)
-            }
-        }
+        let answer = self.answer();
+        self.told.note(&answer);
+        self.state = SourceState::after(&answer);
+        answer
     }
 
     fn has_at_hand(&self) -> bool {
