@@ -2,7 +2,7 @@
 //!
 //! Use it in a test to see what a terminal shows that is sent some bytes.
 //!
-//! From `crates/editor_checks/src/device/shown.rt`:
+//! From `crates/editor_checks/src/shown.rt`:
 //!
 //! ```
 //! let terminal = EcmaTerminal::new(alloc, rows, cols, trial.entry.cell())?;

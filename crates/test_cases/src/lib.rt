@@ -2,7 +2,7 @@
 //!
 //! Use it to write tests as rows of text, which one function plays (docs/GUIDE.md, "Testing").
 //!
-//! From `crates/test_prompt/src/devices/wire.rt`:
+//! From `crates/test_prompt/src/devices/at_once.rt`:
 //!
 //! ```
 //! const TYPED: &str = r"

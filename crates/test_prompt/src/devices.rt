@@ -3,6 +3,7 @@
 mod ansi;
 mod application;
 mod asked;
+mod at_once;
 mod commands;
 mod device;
 mod faults;
@@ -10,4 +11,3 @@ mod keys;
 mod lines;
 mod shown;
 mod typed_bytes;
-mod wire;

@@ -3,14 +3,14 @@
 //! Use `read_typed_line` to read a line from any `Read` and `Write`, and `read_line_from` with events or a terminal of
 //! your own; `Prompt` of `tw_prompt` is the same with all comforts.
 //!
-//! From `crates/test_prompt/src/devices/wire.rt`:
+//! From `crates/test_prompt/src/devices/at_once.rt`:
 //!
 //! ```
 //! let mut host = NopLineEditorHost::new(alloc);
 //! let mut keys = KeyReader::new(alloc, typed.as_bytes());
 //! let size = ScreenSize { rows: 24, cols: 80 };
 //! ..
-//!     let mut terminal = PatientTerminal::new(alloc, Wire::new(&mut taken, 0), size);
+//!     let mut terminal = PatientTerminal::new(alloc, &mut taken, size);
 //!     read_typed_line(alloc, &mut keys, &mut terminal, &mut host, "> ")?
 //! ```
 #![tactic(auto)]

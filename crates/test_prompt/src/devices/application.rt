@@ -1,6 +1,5 @@
 //! The functions of an application, asked while a line is read.
 
-use super::wire::Wire;
 use ecma_terminal::EcmaTerminal;
 use std::alloc::{AllocError, Global};
 use std::test::Fail;
@@ -91,13 +90,13 @@ fn read_shown(alloc: Global, typed: &str) -> Result<String, Fail> {
     let bytes = bytes_of(alloc, typed)?;
     let mut taken = Vec::new(alloc);
     let line = {
-        let mut terminal = AnsiTerminal::new(alloc, Wire::new(&mut taken, 0), SIZE);
+        let mut terminal = AnsiTerminal::new(alloc, &mut taken, SIZE);
         read_at(alloc, bytes.as_slice(), &mut terminal)?
     };
     let shown = rows_shown(alloc, taken.as_slice())?;
     taken.clear();
     {
-        let mut terminal = PatientTerminal::new(alloc, Wire::new(&mut taken, 0), SIZE);
+        let mut terminal = PatientTerminal::new(alloc, &mut taken, SIZE);
         let _same = read_at(alloc, bytes.as_slice(), &mut terminal)?;
     }
     let patient = rows_shown(alloc, taken.as_slice())?;

@@ -1,9 +1,9 @@
 //! Painted lines, and the bytes that are sent for them.
 
-use super::wire::Wire;
 use std::alloc::Global;
-use std::str;
+use std::io::{ErrorKind, Write};
 use std::test::Fail;
+use std::{io, str};
 use test_cases::{expect_rows, pair_of};
 use tw_device::DeviceTerminal;
 use tw_sparing::{PatientTerminal, SparingTerminal};
@@ -98,6 +98,40 @@ fn do_all<T: DeviceTerminal>(
         do_to(alloc, terminal, command)?;
     }
     Ok(())
+}
+
+/// A writer that keeps what it takes, and refuses one write, by its number from 1.
+#[derive(Drop)]
+struct Wire<'a> {
+    taken: &'a mut Vec<u8>,
+    writes: usize,
+    refused: usize,
+}
+
+impl<'a> Wire<'a> {
+    /// Creates a writer that adds what it takes, and refuses the write of this number.
+    fn new(taken: &'a mut Vec<u8>, refused: usize) -> Self {
+        Wire {
+            taken,
+            writes: 0,
+            refused,
+        }
+    }
+}
+
+impl Write for Wire<'_> {
+    fn write(&mut self, buf: &[u8]) -> io::Result<usize> {
+        self.writes = self.writes.saturating_add(1);
+        if self.writes == self.refused {
+            return Err(io::Error::from(ErrorKind::BrokenPipe));
+        }
+        self.taken.extend_from_slice(buf)?;
+        Ok(buf.len())
+    }
+
+    fn flush(&mut self) -> io::Result<()> {
+        Ok(())
+    }
 }
 
 /// Returns the bytes that are sent for the first `count` commands.

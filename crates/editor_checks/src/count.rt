@@ -1,6 +1,6 @@
 //! What was played.
 
-use crate::device::shown::Found;
+use crate::shown::Found;
 use std::fmt;
 
 /// What was played, and what was found.

@@ -1,8 +1,8 @@
 //! The two editors: one reads bytes and writes bytes, and the other is told the same keys.
 
-use crate::device::ends::{Pieces, Recorder, Writes};
-use crate::device::trial::Trial;
+use crate::ends::{Pieces, Recorder, Writes};
 use crate::host::MarkedHost;
+use crate::trial::Trial;
 use std::alloc::Global;
 use tw_device::{AnsiTerminal, Answer, Escape, EventSource, KeyReader, read_typed_line};
 use tw_input::InputEvent;

@@ -1,48 +1,12 @@
-//! A terminal whose bytes are kept, and lines that are read at it.
+//! Lines whose keys come at once.
 
 use std::alloc::Global;
-use std::io;
-use std::io::{ErrorKind, Write};
 use std::test::Fail;
 use test_cases::expect_rows;
 use tw_device::{Answer, KeyReader, read_typed_line};
 use tw_lineedit::NopLineEditorHost;
 use tw_sparing::PatientTerminal;
 use tw_terminal::ScreenSize;
-
-/// A writer that keeps what it takes, and refuses one write, by its number from 1.
-#[derive(Drop)]
-pub struct Wire<'a> {
-    taken: &'a mut Vec<u8>,
-    writes: usize,
-    refused: usize,
-}
-
-impl<'a> Wire<'a> {
-    /// Creates a writer that adds what it takes, and refuses the write of this number.
-    pub fn new(taken: &'a mut Vec<u8>, refused: usize) -> Self {
-        Wire {
-            taken,
-            writes: 0,
-            refused,
-        }
-    }
-}
-
-impl Write for Wire<'_> {
-    fn write(&mut self, buf: &[u8]) -> io::Result<usize> {
-        self.writes = self.writes.saturating_add(1);
-        if self.writes == self.refused {
-            return Err(io::Error::from(ErrorKind::BrokenPipe));
-        }
-        self.taken.extend_from_slice(buf)?;
-        Ok(buf.len())
-    }
-
-    fn flush(&mut self) -> io::Result<()> {
-        Ok(())
-    }
-}
 
 /// What a prompt of two columns is sent as, at first.
 const FIRST_PROMPT: &str = "\r\x1b[K\x1b[C\x1b[J\r\x1b[0m> \r\x1b[2C";
@@ -57,7 +21,7 @@ fn read_at_once(alloc: Global, typed: &str) -> Result<String, Fail> {
     let mut keys = KeyReader::new(alloc, typed.as_bytes());
     let size = ScreenSize { rows: 24, cols: 80 };
     let answer = {
-        let mut terminal = PatientTerminal::new(alloc, Wire::new(&mut taken, 0), size);
+        let mut terminal = PatientTerminal::new(alloc, &mut taken, size);
         read_typed_line(alloc, &mut keys, &mut terminal, &mut host, "> ")?
     };
     let Answer::Line(line) = answer else {

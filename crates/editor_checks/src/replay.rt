@@ -1,10 +1,10 @@
 //! Plays a trial.
 
-use crate::device::count::Count;
-use crate::device::ends::Writes;
-use crate::device::readings::{Ending, keys_of, read_bytes, read_keys};
-use crate::device::shown::Shown;
-use crate::device::trial::Trial;
+use crate::count::Count;
+use crate::ends::Writes;
+use crate::readings::{Ending, keys_of, read_bytes, read_keys};
+use crate::shown::Shown;
+use crate::trial::Trial;
 use std::alloc::{AllocError, Global};
 use tw_ansi::Encoder;
 use tw_surface::Change;

@@ -2,8 +2,8 @@
 
 ghost use Rattle.std.specs.Prelude.{◌<◌};
 
-use crate::device::trial::Trial;
 use crate::table::{Entry, Table};
+use crate::trial::Trial;
 use ecma_terminal::EcmaTerminal;
 use std::alloc::Global;
 use tw_surface::Change;

@@ -1,7 +1,7 @@
 //! What is played. What stands more than once in a list is picked more often.
 
-use crate::device::keystrokes::keystrokes;
 use crate::host::MarkedHost;
+use crate::keystrokes::keystrokes;
 use crate::random_numbers::RandomNumbers;
 use crate::table::Entry;
 use std::alloc::{AllocError, Global};
