@@ -13,7 +13,7 @@ START = f"{ROOT}/tools/at_terminal"
 PROGRAM = f"{ROOT}/crates/example_sql/out/example_sql"
 # A blank beside a prompt may be a move, where nothing stood before.
 PROMPT, GOES_ON = b"sql> ", b"...>"
-UP, RIGHT, CTRL_A, CTRL_C, CTRL_D, CTRL_F = b"\x1b[A", b"\x1b[C", b"\x01", b"\x03", b"\x04", b"\x06"
+UP, RIGHT, CTRL_A, CTRL_C, CTRL_D, CTRL_F, CTRL_R = b"\x1b[A", b"\x1b[C", b"\x01", b"\x03", b"\x04", b"\x06", b"\x12"
 PEOPLE = b"create table people (id integer primary key, name text);\rinsert into people (name) values ('Ann');\r"
 # A file of a history: a line, one that is not UTF-8, one with a wrong escape, and one that is cut off.
 DAMAGED = b"select 'kept';\nselect '\xff';\nselect '\\q';\nselect 'cut o"
@@ -105,6 +105,22 @@ def sql_pasted_rows(path):
         session.ask(PASTE_START + script + PASTE_END + b"\r", b"a\r\n-\r\n7\r\n(1 row)\r\n")
         session.quit()
     want(rows_of(path, "SELECT name FROM people") == [("Bo",)], "a comment went on in the next row")
+
+
+@with_file
+def sql_unfinished_statement_is_abandoned(path):
+    history = f"{path}-history"
+    with open(history, "wb") as file:
+        file.write(b"delete from people\n")
+    with Database(path, history=history) as session:
+        session.type(PEOPLE)
+        for end in (CTRL_C, CTRL_D):
+            since = len(session.shown)
+            session.type(CTRL_R + b"delete\r")
+            session.wait_for(GOES_ON, since)
+            session.type(end)
+        session.end(0)
+    want(rows_of(path, "SELECT name FROM people") == [("Ann",)], "a statement ran that has no end")
 
 
 @with_file
@@ -370,6 +386,6 @@ SQL_CHECKS = [
     sql_columns_of_the_tables_that_are_named, sql_names_stand_in_a_menu,
     sql_hint_is_taken, sql_history_is_kept, sql_history_that_is_not_written, sql_history_that_is_a_folder,
     sql_history_that_is_not_read, sql_history_that_is_damaged, sql_error_is_edited,
-    sql_statement_is_abandoned, sql_size_within_a_line, sql_end_of_input, sql_controls_are_pictures, sql_signal,
+    sql_statement_is_abandoned, sql_unfinished_statement_is_abandoned, sql_size_within_a_line, sql_end_of_input, sql_controls_are_pictures, sql_signal,
     sql_no_database, sql_file_alone_has_all, sql_dump_with_triggers, sql_errors_of_scripts, sql_wrong_arguments,
 ]

@@ -3,10 +3,10 @@
 //!
 //! The bytes of keys (`keystrokes`, `trial`) come in pieces, cut anywhere, on screens of 2 to 30 rows and 2 to 40
 //! columns. An editor reads lines from them, one after the other, and writes bytes to a terminal (`readings`, `ends`).
-//! What was written is to be the bytes of the batches that another editor paints, which is told the same keys and no
+//! What was written is to be the bytes of the batches that another editor paints, which gets the same keys and no
 //! bytes; and a terminal after ECMA-48 that receives them (`shown`) is to hold, after each batch, in each cell and at
 //! its cursor, what the table says, as long as no painting has more rows than the screen. The table knows what a batch
-//! shows by its texts alone (`painted`), and `host` marks the cursor in the line.
+//! shows by its texts only (`painted`), and `host` marks the cursor in the line.
 #![tactic(auto)]
 
 mod count;

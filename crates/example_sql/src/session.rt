@@ -20,6 +20,12 @@ const STATEMENTS_KEPT: usize = 1000;
 /// The most characters of a statement that a message has.
 const STATEMENT_SHOWN: usize = 60;
 
+/// The prompt.
+const PROMPT: &str = "sql> ";
+
+/// The prompt of a statement that goes on.
+const CONTINUATION: &str = "   ...> ";
+
 /// The message if statements can't be written.
 const NOT_KEPT: &str = "the history can't be written: it is kept up to the end of the session";
 
@@ -44,7 +50,7 @@ pub struct Session<'a> {
     prompt: Prompt<PromptTerminal, PreparedHost, FileHistory, (RowKeys, AllKeys), PreparedLines>,
     language: Language,
     /// What was read of a statement that has no end yet, each line with its line feed. At a terminal a line has whole
-    /// statements, in rows.
+    /// statements, in rows, unless a search accepted it.
     begun: String,
     /// The number of the last line, from 1.
     line: u64,
@@ -83,8 +89,8 @@ impl<'a> Session<'a> {
         let alloc = rt.alloc();
         let history = open_history(rt, options)?;
         let language = Language::new(alloc)?;
-        let continuation = String::from_str(alloc, "   ...> ")?;
-        let mut host = PromptHost::new(alloc, "sql> ", 80)?
+        let continuation = String::from_str(alloc, CONTINUATION)?;
+        let mut host = PromptHost::new(alloc, PROMPT, 80)?
             .with_host(PreparedHost::new(alloc))
             .with_history(history)
             .with_keys((RowKeys::new(), all_keys(alloc)))
@@ -134,6 +140,17 @@ impl<'a> Session<'a> {
         self.has_failed && self.options.bails
     }
 
+    /// Sets the prompt, by whether a statement goes on.
+    fn set_prompt(&mut self) -> Result<(), AllocError> {
+        let prompt = if self.begun.is_empty() {
+            PROMPT
+        } else {
+            CONTINUATION
+        };
+        self.prompt.host.screen.prompt = String::from_str(self.rt.alloc(), prompt)?;
+        Ok(())
+    }
+
     /// Reads a line, and does what it says. Before it the names are learned that the database has now.
     fn read_line<S: Alter>(&mut self, connection: &mut Connection<S>) -> Result<(), anyhow::Error> {
         self.tell_if_not_kept()?;
@@ -141,10 +158,14 @@ impl<'a> Session<'a> {
             if let Ok(catalog) = read_catalog(self.rt.alloc(), connection) {
                 self.language.catalog = catalog;
             }
+            self.set_prompt()?;
         }
         match self.prompt.read_with(&mut self.language)? {
             Answer::Line(line) => self.take_line(connection, line.as_str()),
-            Answer::Cancelled => Ok(()),
+            Answer::Cancelled => {
+                self.begun.clear();
+                Ok(())
+            }
             Answer::End(_) => self.finish(connection),
         }
     }
@@ -253,12 +274,12 @@ impl<'a> Session<'a> {
         table_text(alloc, prepared.column_names(), &rows, most)
     }
 
-    /// Ends the input. A last statement of a script runs without its semicolon.
+    /// Ends the input. A last statement runs without its semicolon in a script, and not at a terminal.
     fn finish<S: Alter>(&mut self, connection: &mut Connection<S>) -> Result<(), anyhow::Error> {
         self.has_ended = true;
         let none = String::new(self.rt.alloc());
         let begun = std::mem::replace(&mut self.begun, none);
-        if begun.is_empty() {
+        if begun.is_empty() || self.options.is_typed {
             return Ok(());
         }
         self.run_statement(connection, begun.as_str())

@@ -123,7 +123,7 @@ pub fn write_text<W: Write>(writer: &mut W, text: &str) -> Result<(), TerminalFa
         .map_err(|_| TerminalFault::Device)
 }
 
-/// Appends what a batch is sent as, and returns what is then known.
+/// Appends what a batch is sent as, and returns what is then known. A refusal may have appended a beginning.
 pub fn encode_batch(
     changes: &[Change],
     mut encoder: Encoder,

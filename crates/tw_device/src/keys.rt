@@ -127,8 +127,15 @@ impl<R: Read> KeyReader<R> {
     pub fn with_pasted(mut self, pasted: Pasted) -> Self
         ensures { result ≡ record self { pasted = pasted } }
     {
-        self.pasted = pasted;
+        self.set_pasted(pasted);
         self
+    }
+
+    /// Sets the choice for pasted texts.
+    pub fn set_pasted(&mut self, pasted: Pasted)
+        ensures { self.new ≡ record self.old { pasted = pasted } }
+    {
+        self.pasted = pasted;
     }
 
     /// Returns true if the last answer was that there are no more events.

@@ -19,7 +19,7 @@ pub enum WordEdit {
     SwapClusters,
     /// Swaps the word at the cursor, or the next one, with the previous word.
     SwapWords,
-    /// Changes the case of the next word.
+    /// Changes the case of what Alt-f of the key table passes: the rest of a word, or the whitespace before one.
     Write(WordCase),
 }
 
@@ -55,9 +55,9 @@ pub fn edited_line(
     }
 }
 
-/// Ctrl-T swaps the characters around the cursor, and Alt-t the words. Alt-u, Alt-l and Alt-c change the next word to
-/// upper case, to lower case, and to a capital. The letters of keys with Alt may be of either case. They have no action
-/// during a search.
+/// Ctrl-T swaps the grapheme clusters around the cursor, and Alt-t the words. Alt-u, Alt-l and Alt-c change what Alt-f of
+/// the key table passes to upper case, to lower case, and to a capital. The letters of keys with Alt may be of either
+/// case. They have no action during a search.
 #[derive(Debug, Drop)]
 pub struct WordKeys;
 

@@ -14,8 +14,9 @@ use tw_lineedit::{CompletionCandidate, Error, LineEditBuffer, LineEditor, LineSt
 use tw_prompt_host::{PreparedHost, PreparedLines, PromptHost, StyledRange};
 use tw_terminal::{ScreenSize, TerminalFault};
 
-/// What an application knows of its lines. Each function has a plain default body, and may return what it likes: ranges
-/// are cut to what fits, and the text that is shown is the line's.
+/// What an application knows of its lines. Each function has a plain default body. Ranges are cut to what fits, and the
+/// text that is shown is the line's. A candidate whose range is not one of the line ends the reading with
+/// `Error::CandidateDoesNotFit`.
 pub trait Application {
     /// Returns the texts that can complete a line with its cursor at the byte offset `cursor`: none by default.
     fn complete(
@@ -156,6 +157,7 @@ fn take_events<
     editor: &mut LineEditor<'_, T>,
     host: &mut PromptHost<PreparedHost, L, K, PreparedLines>,
 ) -> Result<bool, Error> {
+    prepare_line(alloc, application, editor, host)?;
     for _ in 0..u64::MAX {
         let Some(event) = events.next_event()? else {
             return Ok(true);
@@ -178,7 +180,8 @@ fn take_events<
 /// Reads a line with a new editor, as `read_line_from` of `tw_device` does, and asks the application between two
 /// events: for what completes the line before a Tab, and after each event for the colours of the line, for what it
 /// lacks, and for news to print above it. The line is painted twice then: give it a `PatientTerminal`, which sends only
-/// the second painting.
+/// the second painting. If a function, the terminal or memory refuses, the line is closed on the screen, and what was
+/// typed of it is lost.
 pub fn read_with<
     A: Application,
     S: EventSource,

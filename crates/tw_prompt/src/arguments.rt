@@ -23,7 +23,8 @@ fn number(argument: Option<String>) -> io::Result<usize> {
 }
 
 impl Arguments {
-    /// Reads the arguments. Fails with `ErrorKind::InvalidInput` if `-at` or `-tty` lacks what belongs to it.
+    /// Reads the arguments. From the first other one on all are the program's own. Fails with
+    /// `ErrorKind::InvalidInput` if `-at` or `-tty` lacks what belongs to it.
     pub fn read(rt: HostRuntime) -> io::Result<Self> {
         let mut size = None;
         let mut file = None;
@@ -35,12 +36,14 @@ impl Arguments {
                 break;
             };
             match word.as_str() {
-                "-at" => {
+                "-at" if own.is_empty() => {
                     let cols = number(words.next())?;
                     let rows = number(words.next())?;
                     size = Some(usable(ScreenSize { rows, cols }));
                 }
-                "-tty" => file = Some(words.next().ok_or(ErrorKind::InvalidInput)?),
+                "-tty" if own.is_empty() => file = Some(
+                    words.next().ok_or(ErrorKind::InvalidInput)?,
+                ),
                 _ => own.push(word)?,
             }
         }

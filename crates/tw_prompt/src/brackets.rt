@@ -1,7 +1,7 @@
 //! The brackets at the cursor.
 
 use std::alloc::{AllocError, Global};
-use tw_prompt_host::{MarkPair, StyledRange, closed_mark};
+use tw_prompt_host::{MarkKind, MarkPair, StyledRange, closed_mark};
 use tw_surface::CellAttributes;
 
 /// Returns the last character of a text, and the text before it.
@@ -40,8 +40,9 @@ fn put_over(
     Ok(shown)
 }
 
-/// Shows the closing bracket before the cursor, and the one that it closes, in these attributes on top of the ranges of
-/// a line, which are in order. `cursor` is a byte offset. Without such a bracket the ranges stay as they are.
+/// Shows the closing mark before the cursor, and the one that it closes, in these attributes on top of the ranges of a
+/// line, which are in order. `cursor` is a byte offset. Without such a mark, and behind an escape character, the ranges
+/// stay as they are.
 pub fn with_brackets(
     alloc: Global,
     ranges: Vec<StyledRange>,
@@ -56,6 +57,9 @@ pub fn with_brackets(
     let Some(open) = closed_mark(alloc, pairs, before, mark)? else {
         return Ok(ranges);
     };
+    if matches!(open.pair.kind, MarkKind::Escape) {
+        return Ok(ranges);
+    }
     let opening = StyledRange {
         start: open.at,
         end: open.at.saturating_add(open.pair.opening.len_utf8()),

@@ -75,28 +75,12 @@ impl<R: Read, C: Clock> PromptEvents<KeyReader<Typed<R, C>>> {
 }
 
 impl<R: Read> PromptEvents<KeyReader<R>> {
-    /// Returns the events with this choice for pasted texts.
-    pub fn with_pasted(self, pasted: Pasted) -> Self
-        ensures { result ≡ record self { source = record self.source { pasted = pasted } } }
+    /// Sets the choice for pasted texts.
+    pub fn set_pasted(&mut self, pasted: Pasted)
+        ensures { self.new
+            ≡ record self.old { source = record self.old.source { pasted = pasted } } }
     {
-        let PromptEvents {
-            alloc,
-            source,
-            joins,
-            pending,
-            wakes,
-            state,
-            told,
-        } = self;
-        PromptEvents {
-            alloc,
-            source: source.with_pasted(pasted),
-            joins,
-            pending,
-            wakes,
-            state,
-            told,
-        }
+        self.source.set_pasted(pasted);
     }
 }
 

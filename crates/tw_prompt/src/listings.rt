@@ -9,12 +9,7 @@ use tw_completion_parts::{DirectoryEntry, Listing};
 /// Returns true if a name can be typed as part of a path: it has no space, which would end the path, and no control
 /// character.
 fn is_typed(name: &str) -> bool {
-    for byte in name.as_bytes() {
-        if *byte <= b' ' || *byte == 0x7f {
-            return false;
-        }
-    }
-    true
+    !name.contains(|c: char| c == ' ' || c.is_control())
 }
 
 /// Returns the name of an entry, with a slash after that of a directory.
@@ -56,8 +51,9 @@ fn entry_of(alloc: Global, name: &str) -> Result<DirectoryEntry, AllocError> {
     })
 }
 
-/// Reads the directory at `path` as a listing for paths that begin with `directory`, sorted by name. Names with a space
-/// or a control character are left out, and a directory that cannot be read has none.
+/// Reads the directory at `path` as a listing for paths that begin with `directory`, sorted by name, that of a
+/// directory with its slash. Names with a space or a control character are left out, and a directory that cannot be
+/// read has none.
 pub fn read_listing(rt: HostRuntime, path: &str, directory: &str) -> Result<Listing, AllocError>
     ensures { IfOk result (λ listing. string_bytes listing.directory ≡ directory.now) }
 {

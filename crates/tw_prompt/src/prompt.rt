@@ -90,7 +90,8 @@ impl<
     K: KeyPart + Drop,
     V: Validator + Drop,
 > Prompt<PromptTerminal, H, L, K, V> {
-    /// Opens a prompt with this host, which gets the columns of the terminal.
+    /// Opens a prompt with this host, which gets the columns of the terminal. Fails with `Error::Terminal` also if the
+    /// program's arguments `-at` or `-tty` lack what belongs to them, or if the file of the terminal can't be opened.
     pub fn over(rt: HostRuntime, host: PromptHost<H, L, K, V>) -> Result<Self, Error> {
         let arguments = Arguments::read(rt).map_err(TerminalFault::from)?;
         let Some(size) = arguments.size else {
@@ -124,7 +125,7 @@ impl<
     V: Validator + Drop,
 > Prompt<T, H, L, K, V> {
     /// Creates a prompt at a terminal of this size, which is asked to mark pasted texts and to tell its new sizes. The
-    /// host gets its columns, and pasted texts keep their rows if it shows rows.
+    /// host gets its columns.
     pub fn at_terminal(
         rt: HostRuntime,
         host: PromptHost<H, L, K, V>,
@@ -135,7 +136,6 @@ impl<
         let mut host = Box::new(rt.alloc(), host)?;
         host.menu.cols = size.cols;
         host.screen.cols = size.cols;
-        let events = events.with_pasted(pasted_for(&host.rows));
         let place = Box::new(rt.alloc(), Place::Terminal { events, terminal })?;
         let mut prompt = Prompt {
             host,
@@ -155,12 +155,14 @@ impl<
         }
     }
 
-    /// Reads a line. The prompt is `host.screen.prompt`. What the last line left, accepted or not, is forgotten first.
+    /// Reads a line. The prompt is `host.screen.prompt`, and pasted texts keep their rows if `host` shows rows. What the
+    /// last line left, accepted or not, is forgotten first.
     pub fn read(&mut self) -> Result<Answer, Error> {
         self.host.begin_line();
         let answer = match &mut *self.place {
             Place::Pipe => read_plainly(self.rt)?,
             Place::Terminal { events, terminal } => {
+                events.set_pasted(pasted_for(&self.host.rows));
                 let prompt = self.host.screen.prompt.clone()?;
                 let alloc = self.rt.alloc();
                 read_line_from(alloc, events, terminal, &mut *self.host, prompt.as_str())?
@@ -181,7 +183,7 @@ impl<
     }
 
     /// Prints lines, which end with CR LF at a terminal. An unfinished last line is ended, and of no line nothing is
-    /// sent.
+    /// sent. The text is sent as it is, so it has to leave no attribute set. A refusal may have sent a beginning.
     pub fn print(&mut self, text: &str) -> Result<(), Error> {
         let end = match &*self.place {
             Place::Pipe => "\n",
@@ -218,10 +220,10 @@ impl<T: DeviceTerminal + Drop, L: History + LentLines + Drop, K: KeyPart + Drop>
     /// Reads a line as `read` does, with the functions of an application.
     pub fn read_with<A: Application>(&mut self, application: &mut A) -> Result<Answer, Error> {
         self.host.begin_line();
-        self.host.validator.lack = None;
         let answer = match &mut *self.place {
-            Place::Pipe => read_plainly(self.rt)?,
+            Place::Pipe => read_plainly(self.rt),
             Place::Terminal { events, terminal } => {
+                events.set_pasted(pasted_for(&self.host.rows));
                 let prompt = self.host.screen.prompt.clone()?;
                 read_with(
                     self.rt.alloc(),
@@ -230,9 +232,11 @@ impl<T: DeviceTerminal + Drop, L: History + LentLines + Drop, K: KeyPart + Drop>
                     terminal,
                     &mut *self.host,
                     prompt.as_str(),
-                )?
+                )
             }
         };
+        self.host.validator.lack = None;
+        let answer = answer?;
         self.remember(&answer);
         Ok(answer)
     }

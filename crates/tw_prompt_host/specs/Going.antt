@@ -10,7 +10,7 @@ use Rattle.tw_host.specs.KeyTable.{key_press, letter}
 use Rattle.tw_key_parts.specs.Keys.{is_key}
 use Rattle.tw_key_parts.specs.Ring.{is_same_cut}
 use Rattle.tw_key_parts.specs.SearchWatch.{searches_after}
-use Rattle.tw_prompt_host.specs.Menu.{menu_after}
+use Rattle.tw_prompt_host.specs.Menu.{is_menu_open, menu_after}
 use Rattle.tw_prompt_host.specs.declared.going.Going.{Going}
 use Rattle.tw_prompt_host.specs.declared.menu.Menu.{Menu}
 use Rattle.tw_prompt_host.specs.declared.menu.Menu.TheVariants.{Closed}
@@ -22,6 +22,10 @@ give_up_key = key_press ctrl (letter (codes "G"))
 -- before a line
 abbrev pub going_at_rest : Going
 going_at_rest = record { searching = false; fails = false; before_search = None; comes_back = None; kept = false; over = false; menu = Closed }
+
+-- whether no hint is shown: the editor searches, the line was kept, or the menu is open
+abbrev pub hides_hint : Going → Bool
+hides_hint going = going.searching || (going.kept || is_menu_open going.menu)
 
 -- the line at an event: the one that comes back, or else the editor's
 abbrev pub event_line : Going → Cut → Cut

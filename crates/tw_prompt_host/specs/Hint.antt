@@ -52,10 +52,10 @@ abbrev pub part_taken : Option ActionView → List ℕ → List ℕ
 part_taken (Some (Move (ForwardWord n))) rest = word_of rest
 part_taken _ rest = rest
 
--- what an action puts in after the line, by the lines that are lent and by whether the editor searches
+-- what an action puts in after the line, by the lines that are lent and by whether the hint is hidden
 abbrev pub hint_taken_by : List (List ℕ) → Bool → Option ActionView → Cut → Option (List ℕ)
-hint_taken_by lent searching action cut =
-    if searching || not (is_taking action cut) then None else option_map (part_taken action) (hint_of lent cut.line)
+hint_taken_by lent hidden action cut =
+    if hidden || not (is_taking action cut) then None else option_map (part_taken action) (hint_of lent cut.line)
 
 -- hints after the line in half intensity
 abbrev pub dim_hints : Hints

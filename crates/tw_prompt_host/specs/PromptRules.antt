@@ -19,7 +19,7 @@ use Rattle.tw_completion_parts.specs.SharedCandidate.{beginning_first}
 use Rattle.tw_key_parts.specs.Keys.{is_key}
 use Rattle.tw_key_parts.specs.KeyRules.{Edited, KeyRules, step_of}
 use Rattle.tw_key_parts.specs.SearchWatch.{has_lines, searches_after}
-use Rattle.tw_prompt_host.specs.Going.{Came, give_up_key, going_after, event_line}
+use Rattle.tw_prompt_host.specs.Going.{Came, give_up_key, going_after, event_line, hides_hint}
 use Rattle.tw_prompt_host.specs.Hint.{are_on, hint_if_under, hint_of, hint_taken_by, shown_under}
 use Rattle.tw_prompt_host.specs.AfterLine.{after_line_on}
 use Rattle.tw_prompt_host.specs.FailingSearch.{fails_after, is_failing}
@@ -131,7 +131,7 @@ module _ {V S K : Type 0} (keys : KeyRules S K) (rules : HostRules V) where
   -- the edit that an event has without the menu: a search is left, a hint is taken, or that of the parts
   abbrev pub edit_at : Prompted V S → EventView → Cut → Option (Edited (Option K))
   edit_at v event cut =
-      let hint = if are_on v.hints then hint_taken_by v.lent v.going.searching (action_of event) cut else None in
+      let hint = if are_on v.hints then hint_taken_by v.lent (hides_hint v.going) (action_of event) cut else None in
       leaving (v.going.searching && is_key give_up_key event)
       (hint_or cut hint (keys.edits v.keys (record { event = event; searching = v.going.searching; lines = v.lines; cut = cut })))
 

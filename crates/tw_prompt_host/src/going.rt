@@ -5,7 +5,7 @@ ghost use Rattle.tw_input.specs.EventView.{event_view};
 ghost use Rattle.tw_key_parts.specs.EditView.{lent_action};
 ghost use Rattle.tw_key_parts.specs.Keys.{is_key};
 ghost use Rattle.tw_key_parts.specs.SearchWatch.{searches_after};
-ghost use Rattle.tw_prompt_host.specs.Going.{going_at_rest, before_search_after, comes_back_after, give_up_key, going_after};
+ghost use Rattle.tw_prompt_host.specs.Going.{going_at_rest, before_search_after, comes_back_after, give_up_key, going_after, hides_hint};
 ghost use Rattle.tw_prompt_host.specs.Menu.{turn_view};
 
 use crate::menu::{Menu, Turn};
@@ -47,6 +47,13 @@ pub fn gives_up(event: &InputEvent) -> bool
 }
 
 impl Going {
+    /// Returns true if no hint is shown: the editor searches, the line was kept, or the menu is open.
+    pub fn hides_hint(&self) -> bool
+        ensures { result ≡ hides_hint self.now }
+    {
+        self.searching || self.kept || self.menu.is_open()
+    }
+
     /// Creates the state before a line.
     pub fn new() -> Self
         ensures { result ≡ going_at_rest }

@@ -120,7 +120,8 @@ impl<H: LineEditorHost, L: History + LentLines, K: KeyPart, V: Validator> Prompt
         Ok(self.validator.lack(alloc, line)?.is_some())
     }
 
-    /// Returns the edit of an event without the menu: a search is left, a hint is taken, or that of the parts.
+    /// Returns the edit of an event without the menu: a search is left, a hint that is shown is taken, or that of the
+    /// parts.
     fn edit_at(
         &self,
         alloc: Global,
@@ -142,7 +143,7 @@ impl<H: LineEditorHost, L: History + LentLines, K: KeyPart, V: Validator> Prompt
             }));
         }
         if !matches!(self.hints, Hints::Off)
-            && !searching
+            && !self.going.hides_hint()
             && is_taking(default, line)
             && let Some(rest) = history_hint(&self.history, line.get_line())
         {
@@ -306,10 +307,8 @@ impl<H: LineEditorHost, L: History + LentLines, K: KeyPart, V: Validator> Prompt
             let style = CellAttributes::default();
             return after_line_on(alloc, &self.screen, &self.rows, line, style, FAILING);
         }
-        if !self.going.searching
+        if !self.going.hides_hint()
             && !self.going.over
-            && !self.going.kept
-            && !self.going.menu.is_open()
             && cursor == line.len()
             && let Hints::After(style) = self.hints
             && let Some(rest) = history_hint(&self.history, line)
