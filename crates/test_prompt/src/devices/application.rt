@@ -109,6 +109,7 @@ const READ: &str = r#"
 ;\x0d => ";" > ;
 ab;\x0d => "ab;" one/two/> ab;
 a\x0d;\x0d => "a\\n;" one/two/> a/- ;
+\x0d;\x0d => "\\n;" one/two/>/- ;
 abcdefghij\x0d;\x0d => "abcdefghij\\n;" one/two/> abcdefghij//- ;
 \x1b[200~a\x0d\x0ab\x0ac\x09;\x1b[201~\x0d => "a\\nb\\nc ;" > a/- b/- c ;
 \x1b[200~a\x0d;\x1b[201~b;\x0d => "a\\n;b;" one/two/> a/- ;b;
