@@ -386,6 +386,7 @@ SQL_CHECKS = [
     sql_columns_of_the_tables_that_are_named, sql_names_stand_in_a_menu,
     sql_hint_is_taken, sql_history_is_kept, sql_history_that_is_not_written, sql_history_that_is_a_folder,
     sql_history_that_is_not_read, sql_history_that_is_damaged, sql_error_is_edited,
-    sql_statement_is_abandoned, sql_unfinished_statement_is_abandoned, sql_size_within_a_line, sql_end_of_input, sql_controls_are_pictures, sql_signal,
+    sql_statement_is_abandoned, sql_unfinished_statement_is_abandoned,
+    sql_size_within_a_line, sql_end_of_input, sql_controls_are_pictures, sql_signal,
     sql_no_database, sql_file_alone_has_all, sql_dump_with_triggers, sql_errors_of_scripts, sql_wrong_arguments,
 ]
