@@ -293,14 +293,14 @@ fn hold_refused<H: LineEditorHost>(
     hold_stop(alloc, case, host, refused)
 }
 
-/// Reads the last line of a case between marks. Fails unless it comes to the same as with memory, or is refused: then
-/// what the terminal took is a beginning of what it takes with memory, the closing batch of the last painting follows,
-/// and the editor can read again.
+/// Reads the last line of a case between marks, and returns what it answers with memory. Fails unless it comes to the
+/// same as with memory, or is refused: then what the terminal took is a beginning of what it takes with memory, the
+/// closing batch of the last painting follows, and the editor can read again.
 pub fn read_refused<H: LineEditorHost>(
     alloc: Global,
     case: &Case<'_>,
     host: &mut H,
-) -> Result<(), Fail> {
+) -> Result<String, Fail> {
     let whole = Play {
         events: usize::MAX,
         fault: case.fault,
@@ -312,8 +312,8 @@ pub fn read_refused<H: LineEditorHost>(
         ..whole
     };
     let reading = last_reading(alloc, case, host, marked)?;
-    if reading.is_as(alloc, &with_memory)? {
-        return Ok(());
+    if !reading.is_as(alloc, &with_memory)? {
+        hold_refused(alloc, case, host, &reading, &with_memory)?;
     }
-    hold_refused(alloc, case, host, &reading, &with_memory)
+    Ok(answer_text(alloc, &with_memory.end.answer)?)
 }

@@ -37,6 +37,8 @@ do InsertText 3 xy
 line 1 ab
 do InsertChar 18446744073709551615 !
 do InsertChar 9 !
+line 1 ab
+do InsertChar 2 !
 --
 \"ab\" at 1
 refusal 6, \"ab\" at 1
@@ -44,6 +46,7 @@ refusal 6, \"ab\" at 1
 \"axyxyxyb\" at 7
 refusal 6, \"ab\" at 1
 \"a!!!!!!!!!b\" at 10
+\"a!!b\" at 3
 ==
 # a refused line leaves the one before it, and a refused prompt is set again
 line 2 \u{e9}

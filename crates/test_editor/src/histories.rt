@@ -160,7 +160,7 @@ fn a_search_goes_through_the_matching_lines(rt: HostRuntime) -> Result<(), Fail>
     expect_cases(rt.alloc(), SEARCHES, play)
 }
 
-const WALKS: &str = "\
+pub const WALKS: &str = "\
 # steps walk through the lines
 history one
 history two
@@ -254,6 +254,14 @@ readings 2
 --
 Some(\"two\"), Some(\"\")
 ==
+";
+
+#[test]
+fn steps_walk_through_the_lines(rt: HostRuntime) -> Result<(), Fail> {
+    expect_cases(rt.alloc(), WALKS, play)
+}
+
+const KEPT: &str = "\
 # histories that keep one line and two
 host kept 1
 history one
@@ -315,6 +323,6 @@ actions Up
 ";
 
 #[test]
-fn steps_walk_through_the_lines(rt: HostRuntime) -> Result<(), Fail> {
-    expect_cases(rt.alloc(), WALKS, play)
+fn histories_keep_the_newest_lines(rt: HostRuntime) -> Result<(), Fail> {
+    expect_cases(rt.alloc(), KEPT, play)
 }

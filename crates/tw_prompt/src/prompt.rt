@@ -155,14 +155,21 @@ impl<
         }
     }
 
+    /// Forgets what the last line left, and lets pasted texts keep their rows if the host shows rows.
+    fn begin_line(&mut self) {
+        self.host.begin_line();
+        if let Place::Terminal { events, .. } = &mut *self.place {
+            events.set_pasted(pasted_for(&self.host.rows));
+        }
+    }
+
     /// Reads a line. The prompt is `host.screen.prompt`, and pasted texts keep their rows if `host` shows rows. What the
     /// last line left, accepted or not, is forgotten first.
     pub fn read(&mut self) -> Result<Answer, Error> {
-        self.host.begin_line();
+        self.begin_line();
         let answer = match &mut *self.place {
             Place::Pipe => read_plainly(self.rt)?,
             Place::Terminal { events, terminal } => {
-                events.set_pasted(pasted_for(&self.host.rows));
                 let prompt = self.host.screen.prompt.clone()?;
                 let alloc = self.rt.alloc();
                 read_line_from(alloc, events, terminal, &mut *self.host, prompt.as_str())?
@@ -219,11 +226,10 @@ impl<T: DeviceTerminal + Drop, L: History + LentLines + Drop, K: KeyPart + Drop>
 > {
     /// Reads a line as `read` does, with the functions of an application.
     pub fn read_with<A: Application>(&mut self, application: &mut A) -> Result<Answer, Error> {
-        self.host.begin_line();
+        self.begin_line();
         let answer = match &mut *self.place {
             Place::Pipe => read_plainly(self.rt),
             Place::Terminal { events, terminal } => {
-                events.set_pasted(pasted_for(&self.host.rows));
                 let prompt = self.host.screen.prompt.clone()?;
                 read_with(
                     self.rt.alloc(),

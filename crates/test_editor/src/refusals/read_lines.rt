@@ -1,18 +1,19 @@
 //! Lines that are read, with each request refused in turn.
 
-use crate::histories::SEARCHES;
+use crate::histories::{SEARCHES, WALKS};
 use crate::hosts::SCREENS;
 use crate::support::play;
 use std::alloc::Global;
 use std::test::Fail;
 use test_cases::{
-    Case, ColumnHost, ResolvingHost, case_of, expect_cases, host_of, read_refused, remember_all,
+    Case, ColumnHost, ResolvingHost, case_of, expect_cases, hold, host_of, read_refused,
+    remember_all,
 };
 use tw_lineedit::{BasicHistory, NopLineEditorHost};
 
-/// Reads the last line of a case over its host: `column COLUMN` and `resolving` are hosts of their own, and a case
-/// without preview and candidates has the default one.
-fn read_case(alloc: Global, case: &Case<'_>) -> Result<(), Fail> {
+/// Reads the last line of a case over its host, and returns the answer: `column COLUMN` and `resolving` are hosts of
+/// their own, and a case without preview and candidates has the default one.
+fn read_case(alloc: Global, case: &Case<'_>) -> Result<String, Fail> {
     if let Some(column) = case.host.strip_prefix("column ") {
         let mut host = ColumnHost::new(alloc, column.parse()?);
         return read_refused(alloc, case, &mut host);
@@ -29,10 +30,14 @@ fn read_case(alloc: Global, case: &Case<'_>) -> Result<(), Fail> {
     read_refused(alloc, case, &mut host)
 }
 
-/// Reads the last line of a case with each request refused in turn, and returns what comes of the case without.
+/// Reads the last line of a case with each request refused in turn, and returns what comes of the case. With memory the
+/// line is the last one of the case.
 fn play_reading(alloc: Global, lines: &str) -> Result<String, Fail> {
-    read_case(alloc, &case_of(alloc, lines)?)?;
-    play(alloc, lines)
+    let answer = read_case(alloc, &case_of(alloc, lines)?)?;
+    let outcome = play(alloc, lines)?;
+    let (answers, _) = outcome.split_once('\n').unwrap_or((outcome.as_str(), ""));
+    hold(answers.ends_with(answer.as_str()), lines, answer.as_str())?;
+    Ok(outcome)
 }
 
 const TYPED: &str = "\
@@ -68,22 +73,10 @@ readings 2
 --
 Some(\"a\"), Some(\"b\")
 ==
-history one
-history two
-events x Up Up Down Down Enter
---
-Some(\"x\")
-==
-history one
-history two
-events x Up Up Down Down Down Enter
---
-Some(\"x\")
-==
 ";
 
 #[test]
-fn typed_lines_and_walks_refused_in_turn(rt: HostRuntime) -> Result<(), Fail> {
+fn typed_lines_refused_in_turn(rt: HostRuntime) -> Result<(), Fail> {
     expect_cases(rt.alloc(), TYPED, play_reading)
 }
 
@@ -131,7 +124,8 @@ fn sizes_and_faulty_terminals_refused_in_turn(rt: HostRuntime) -> Result<(), Fai
 }
 
 #[test]
-fn searches_refused_in_turn(rt: HostRuntime) -> Result<(), Fail> {
+fn walks_and_searches_refused_in_turn(rt: HostRuntime) -> Result<(), Fail> {
+    expect_cases(rt.alloc(), WALKS, play_reading)?;
     expect_cases(rt.alloc(), SEARCHES, play_reading)
 }
 
