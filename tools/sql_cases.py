@@ -15,8 +15,6 @@ PROGRAM = f"{ROOT}/crates/example_sql/out/example_sql"
 PROMPT, GOES_ON = b"sql> ", b"...>"
 UP, RIGHT, CTRL_A, CTRL_C, CTRL_D, CTRL_F, CTRL_R = b"\x1b[A", b"\x1b[C", b"\x01", b"\x03", b"\x04", b"\x06", b"\x12"
 PEOPLE = b"create table people (id integer primary key, name text);\rinsert into people (name) values ('Ann');\r"
-# A file of a history: a line, one that is not UTF-8, one with a wrong escape, and one that is cut off.
-DAMAGED = b"select 'kept';\nselect '\xff';\nselect '\\q';\nselect 'cut o"
 STYLES = re.compile(rb"\x1b\[[0-9;]*m")
 
 
@@ -64,6 +62,35 @@ def with_file(check):
             check(f"{room}/some.db")
     run.__name__ = check.__name__
     return run
+
+
+@with_file
+def sql_wide_texts_are_cut(path):
+    """A text that is wider than the terminal hides no column behind it."""
+    with Database(path, cols=40) as session:
+        wide = b"0123456789" * 10
+        rows = session.ask(b"select '" + wide + b"' as wide, 'seen' as behind;\r", b"(1 row)")
+        want("012345678901234567890123456789…"[:30].encode() in rows and b" | seen\r\n" in rows, f"it shows {rows}")
+        session.quit()
+
+
+def sql_errors_have_pictures():
+    """A control character of a script does nothing at the terminal that shows its errors."""
+    ran = subprocess.run([PROGRAM, ":memory:"], input=b"select no \x1b]0;title\x07\xc2\x9b;\n", capture_output=True,
+                         timeout=LIMIT, check=False)
+    want(ran.stderr.startswith(b"line 1: ") and not re.search(rb"[\x00-\x09\x0b-\x1f]|\xc2[\x80-\x9f]", ran.stderr),
+         f"it tells {ran.stderr}")
+
+
+@with_file
+def sql_in_a_paste(path):
+    """What a terminal reports within a pasted text makes no mark of what is around it: nothing of the text runs."""
+    with Database(path) as session:
+        session.type(PEOPLE)
+        session.type(PASTE_START + b"-- harmless \x1b[20\x1b[5;5R1~\rdrop table people;\r.quit\r" + PASTE_END)
+        session.wait_for(b"people;")
+        session.ask(CTRL_C + b"select name from people;\r", b"\r\nAnn\r\n")
+        session.quit()
 
 
 @with_file
@@ -177,80 +204,6 @@ def sql_hint_is_taken(path):
 
 
 @with_file
-def sql_history_is_kept(path):
-    history = f"{path}-history"
-    with Database(path, history=history) as session:
-        session.type(PEOPLE)
-        session.type(b"select name\rfrom people;\r")
-        session.ask(b"select 'a\\b' as text;\r", b"a\\b\r\n(1 row)\r\n")
-        session.quit()
-    with open(history, "ab") as file:
-        file.write(b"select 'cut off")
-    with Database(path, history=history) as session:
-        want(session.shown.count(b"lines that can't be read: 1\r\n") == 1, f"it says {session.shown}")
-        session.ask(UP + UP + UP + b"\r", b"Ann\r\n(1 row)\r\n")
-        session.quit()
-    kept = kept_in(history)
-    want(kept == PEOPLE.split(b"\r")[:2] + [b"select name\\nfrom people;", b"select 'a\\\\b' as text;", b".quit",
-                                            b"select 'cut off", b"select name\\nfrom people;", b".quit"],
-         f"the file has {kept}")
-
-
-def go_on_in_memory(path, history, told):
-    """Wants a text to be told once, that the history can't be written too, and that it goes on in memory."""
-    with Database(path, history=history) as session:
-        for text in (told, b"the history can't be written"):
-            want(session.shown.count(text) == 1, f"it says {session.shown}")
-        session.type(PEOPLE)
-        session.ask(b"select name from people;\r", b"Ann\r\n(1 row)\r\n")
-        session.ask(UP + b"\r", b"Ann\r\n(1 row)\r\n")
-        want(session.shown.count(b"the history can't be written") == 1, "it says so twice")
-        session.type(b"drop table people;\r")
-        session.quit()
-
-
-@with_file
-def sql_history_that_is_not_written(path):
-    go_on_in_memory(path, f"{path}-none/history", b"it is kept up to the end of the session")
-
-
-@with_file
-def sql_history_that_is_a_folder(path):
-    os.mkdir(f"{path}-history")
-    go_on_in_memory(path, f"{path}-history", b"the history: the file can't be read")
-    want(os.listdir(f"{path}-history") == [], "something is written into it")
-
-
-@with_file
-def sql_history_that_is_not_read(path):
-    history = f"{path}-history"
-    os.symlink(history, f"{path}-loop")
-    os.symlink(f"{path}-loop", history)
-    for refused in (history, "/proc/self/mem"):
-        go_on_in_memory(path, refused, b"the history: the file can't be read")
-    if os.geteuid() != 0:
-        with open(f"{path}-closed", "wb") as file:
-            file.write(DAMAGED)
-        os.chmod(f"{path}-closed", 0o200)
-        go_on_in_memory(path, f"{path}-closed", b"the history: the file can't be read")
-        want(os.path.getsize(f"{path}-closed") == len(DAMAGED), "it is written")
-
-
-@with_file
-def sql_history_that_is_damaged(path):
-    history = f"{path}-history"
-    with open(history, "wb") as file:
-        file.write(DAMAGED)
-    with Database(path, history=history) as session:
-        want(session.shown.count(b"the history: lines that can't be read: 3\r\n") == 1, f"it says {session.shown}")
-        session.ask(UP + b"\r", b"kept\r\n(1 row)\r\n")
-        session.quit()
-    with open(history, "rb") as file:
-        kept = file.read()
-    want(kept == DAMAGED + b"\nselect 'kept';\n.quit\n", f"the file has {kept}")
-
-
-@with_file
 def sql_error_is_edited(path):
     with Database(path) as session:
         session.tells_errors = True
@@ -274,10 +227,10 @@ def sql_statement_is_abandoned(path):
 def sql_size_within_a_line(path):
     with Database(path) as session:
         session.type(b"select 'abcdefghij'")
-        session.wait_for(b"mj\x1b")
+        session.wait_for(b"j'")
         session.resize(24, 20)
         session.wait_for_size()
-        session.ask(b" as a, 'klmnopqrst' as b;\r", "abcdefghij | klmnop…\r\n(1 row)\r\n".encode())
+        session.ask(b" as a, 'klmnopqrst' as b;\r", "abcdefg… | klmnopq…\r\n(1 row)\r\n".encode())
         session.quit()
 
 
@@ -322,6 +275,7 @@ def sql_no_database(path):
     with session:
         session.end(1)
         want(path.encode() in session.shown, f"it says {session.shown}")
+        want(b"\r" in session.shown[session.shown.rindex(b"\n"):], "the error ends within a row")
 
 
 def play(path, script, *options, folder=None):
@@ -382,11 +336,10 @@ def sql_wrong_arguments(path):
 
 
 SQL_CHECKS = [
-    sql_of_several_lines, sql_quotes_over_lines, sql_pasted_rows, sql_names_are_completed,
-    sql_columns_of_the_tables_that_are_named, sql_names_stand_in_a_menu,
-    sql_hint_is_taken, sql_history_is_kept, sql_history_that_is_not_written, sql_history_that_is_a_folder,
-    sql_history_that_is_not_read, sql_history_that_is_damaged, sql_error_is_edited,
-    sql_statement_is_abandoned, sql_unfinished_statement_is_abandoned,
-    sql_size_within_a_line, sql_end_of_input, sql_controls_are_pictures, sql_signal,
-    sql_no_database, sql_file_alone_has_all, sql_dump_with_triggers, sql_errors_of_scripts, sql_wrong_arguments,
+    sql_of_several_lines, sql_quotes_over_lines, sql_pasted_rows, sql_in_a_paste, sql_wide_texts_are_cut,
+    sql_errors_have_pictures, sql_names_are_completed, sql_columns_of_the_tables_that_are_named,
+    sql_names_stand_in_a_menu, sql_hint_is_taken, sql_error_is_edited,
+    sql_statement_is_abandoned, sql_unfinished_statement_is_abandoned, sql_size_within_a_line, sql_end_of_input,
+    sql_controls_are_pictures, sql_signal, sql_no_database, sql_file_alone_has_all, sql_dump_with_triggers,
+    sql_errors_of_scripts, sql_wrong_arguments,
 ]

@@ -8,7 +8,7 @@ use std::alloc::{AllocError, Global};
 use std::fs;
 use tw_device::Answer;
 use tw_lineedit::CompletionCandidate;
-use tw_prompt::{Application, Arguments, Prompt, WordBefore};
+use tw_prompt::{Application, Arguments, Prompt, WordBefore, visible_rows};
 use tw_prompt_host::StyledRange;
 use tw_surface::{CellAttributes, ColorAttribute};
 
@@ -112,7 +112,7 @@ fn main(rt: HostRuntime) -> Result<(), anyhow::Error> {
                     Some(value) => value.to_string_pretty(alloc)?,
                     None => format!(in alloc; "nothing is at {line}")?,
                 };
-                prompt.print(shown.as_str())?;
+                prompt.print(visible_rows(alloc, shown.as_str())?.as_str())?;
             }
             Answer::Cancelled => {}
             Answer::End(_) => break,

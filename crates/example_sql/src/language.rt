@@ -7,7 +7,7 @@ use sql_language::{
 use std::alloc::{AllocError, Global};
 use tw_lineedit::CompletionCandidate;
 use tw_prompt::Application;
-use tw_prompt_host::StyledRange;
+use tw_prompt_host::{StyledRange, Validation};
 use tw_surface::{CellAttributes, ColorAttribute, Intensity};
 
 /// The words that are shown as keywords, and completed.
@@ -27,6 +27,8 @@ const NO_END: &str = "the statement has no end";
 pub struct Language {
     keywords: Vec<String>,
     pub catalog: Catalog,
+    /// True if lines are typed. Those of a script are taken one by one, and the session joins them.
+    is_typed: bool,
 }
 
 /// Returns what stands behind the last statement that ends.
@@ -58,7 +60,7 @@ pub fn is_blank(text: &str) -> bool {
 
 impl Language {
     /// Creates the language of a database without names.
-    pub fn new(alloc: Global) -> Result<Self, AllocError> {
+    pub fn new(alloc: Global, is_typed: bool) -> Result<Self, AllocError> {
         let mut keywords = Vec::new(alloc);
         for keyword in KEYWORDS.split(' ') {
             keywords.push(String::from_str(alloc, keyword)?)?;
@@ -67,7 +69,11 @@ impl Language {
             names: Vec::new(alloc),
             tables: Vec::new(alloc),
         };
-        Ok(Language { keywords, catalog })
+        Ok(Language {
+            keywords,
+            catalog,
+            is_typed,
+        })
     }
 
     /// Returns the attributes of a token: keywords are bold, texts green, numbers cyan and comments grey.
@@ -134,11 +140,11 @@ impl Application for Language {
         Ok(ranges)
     }
 
-    /// Returns what the line lacks, or `None` if it may be accepted: a command, or statements each of which ends.
-    fn lack(&self, alloc: Global, line: &str) -> Result<Option<String>, AllocError> {
-        if line.starts_with('.') || is_blank(unfinished(line)) {
-            return Ok(None);
+    /// Accepts a command, statements each of which ends, and each line of a script.
+    fn validate(&self, alloc: Global, line: &str) -> Result<Validation, AllocError> {
+        if !self.is_typed || line.starts_with('.') || is_blank(unfinished(line)) {
+            return Ok(Validation::Valid);
         }
-        Ok(Some(String::from_str(alloc, NO_END)?))
+        Ok(Validation::Incomplete(String::from_str(alloc, NO_END)?))
     }
 }

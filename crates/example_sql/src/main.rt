@@ -2,10 +2,11 @@
 //! in FILE, or on a new one in memory if that is `:memory:`. `tools/at_terminal` starts it at a terminal.
 //! docs/SQL_PROMPT.md is for its users.
 //!
-//! `session` has what a line does, `language` what is known of a line while it is typed, `catalog` the names of the
-//! database, and `table` how rows are shown.
+//! `session` has what a line does, `begun` what was read of a statement, `language` what is known of a line while it is
+//! typed, `catalog` the names of the database, and `table` how rows are shown.
 #![tactic(auto)]
 
+mod begun;
 mod catalog;
 mod language;
 mod session;

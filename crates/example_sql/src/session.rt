@@ -1,8 +1,9 @@
 //! A session: what each line of input does to a database, and what it prints.
 
+use crate::begun::Begun;
 use crate::catalog::{TABLES, read_catalog};
-use crate::language::{Language, is_blank};
-use crate::table::{table_text, visible};
+use crate::language::Language;
+use crate::table::table_text;
 use sql_language::{statement_len, tokenize};
 use sqlite::{Alter, Connection, Error};
 use std::alloc::{AllocError, Global};
@@ -11,7 +12,7 @@ use tw_device::Answer;
 use tw_history_parts::{FileHistory, RecentHistory};
 use tw_key_parts::RowKeys;
 use tw_lineedit::LineEditorHost;
-use tw_prompt::{AllKeys, Prompt, PromptTerminal, all_keys};
+use tw_prompt::{AllKeys, Prompt, PromptTerminal, all_keys, visible};
 use tw_prompt_host::{Hints, PreparedHost, PreparedLines, PromptHost, Rows};
 
 /// How many statements the history keeps.
@@ -49,9 +50,9 @@ pub struct Session<'a> {
     options: &'a Options,
     prompt: Prompt<PromptTerminal, PreparedHost, FileHistory, (RowKeys, AllKeys), PreparedLines>,
     language: Language,
-    /// What was read of a statement that has no end yet, each line with its line feed. At a terminal a line has whole
-    /// statements, in rows, unless a search accepted it.
-    begun: String,
+    /// What was read of a statement that has no end yet. At a terminal a line has whole statements, in rows, unless a
+    /// search accepted it.
+    begun: Begun,
     /// The number of the last line, from 1.
     line: u64,
     /// That of the line on which the statement begins.
@@ -88,7 +89,7 @@ impl<'a> Session<'a> {
     pub fn open(rt: HostRuntime, options: &'a Options) -> Result<Self, anyhow::Error> {
         let alloc = rt.alloc();
         let history = open_history(rt, options)?;
-        let language = Language::new(alloc)?;
+        let language = Language::new(alloc, options.is_typed)?;
         let continuation = String::from_str(alloc, CONTINUATION)?;
         let mut host = PromptHost::new(alloc, PROMPT, 80)?
             .with_host(PreparedHost::new(alloc))
@@ -103,7 +104,7 @@ impl<'a> Session<'a> {
             options,
             prompt,
             language,
-            begun: String::new(alloc),
+            begun: Begun::new(alloc),
             line: 0,
             begun_line: 0,
             has_failed: false,
@@ -184,13 +185,8 @@ impl<'a> Session<'a> {
                 return self.obey(connection, line.trim());
             }
         }
-        self.begun.push_str(line)?;
-        self.begun.push('\n')?;
-        if line.contains(';') {
+        if self.begun.push_row(line)? {
             self.run_whole(connection)?;
-        }
-        if is_blank(self.begun.as_str()) {
-            self.begun.clear();
         }
         Ok(())
     }
@@ -213,10 +209,10 @@ impl<'a> Session<'a> {
 
     /// Runs the statements that are whole.
     fn run_whole<S: Alter>(&mut self, connection: &mut Connection<S>) -> Result<(), anyhow::Error> {
-        let none = String::new(self.rt.alloc());
+        let none = Begun::new(self.rt.alloc());
         let begun = std::mem::replace(&mut self.begun, none);
         let mut done: usize = 0;
-        for _ in 0..begun.len() {
+        for _ in 0..begun.as_str().len() {
             let rest = begun.as_str().get(done..).unwrap_or("");
             let Some(len) = statement_len(rest) else {
                 break;
@@ -225,14 +221,13 @@ impl<'a> Session<'a> {
             self.run_statement(connection, statement)?;
             self.begun_line = self.line;
             done = if self.bails() {
-                begun.len()
+                begun.as_str().len()
             } else {
                 done.saturating_add(len)
             };
         }
         let rest = begun.as_str().get(done..).unwrap_or("");
-        self.begun.push_str(rest)?;
-        Ok(())
+        Ok(self.begun.push_rest(rest)?)
     }
 
     /// Runs a statement, and tells its rows or its error. Only one that makes a trigger has semicolons before its end.
@@ -277,7 +272,7 @@ impl<'a> Session<'a> {
     /// Ends the input. A last statement runs without its semicolon in a script, and not at a terminal.
     fn finish<S: Alter>(&mut self, connection: &mut Connection<S>) -> Result<(), anyhow::Error> {
         self.has_ended = true;
-        let none = String::new(self.rt.alloc());
+        let none = Begun::new(self.rt.alloc());
         let begun = std::mem::replace(&mut self.begun, none);
         if begun.is_empty() || self.options.is_typed {
             return Ok(());
@@ -300,8 +295,9 @@ impl<'a> Session<'a> {
             return self.tell(format!(in alloc; "Error: {reason}")?.as_str());
         }
         let statement = beginning(alloc, statement)?;
-        let told = format!(in alloc; "line {}: {reason}: {statement}\n", self.begun_line)?;
-        self.rt.stderr().write_all(told.as_bytes())?;
+        let told = format!(in alloc; "line {}: {reason}: {statement}", self.begun_line)?;
+        let shown = visible(alloc, told.as_str())?;
+        writeln!(self.rt.stderr(), "{shown}")?;
         Ok(())
     }
 

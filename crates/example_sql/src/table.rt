@@ -4,6 +4,7 @@ use hex::encode_upper;
 use sqlite::types::{Bytes, ValueRef};
 use sqlite::{Error, Row};
 use std::alloc::{AllocError, Global};
+use tw_prompt::visible;
 use unicode_width::UnicodeWidthStr;
 
 /// What is shown of a value.
@@ -12,20 +13,6 @@ struct Field {
     text: String,
     /// Whether the text stands at the right of its column.
     is_right: bool,
-}
-
-/// Returns a text with a picture for each control character, so that it does nothing at a terminal.
-pub fn visible(alloc: Global, text: &str) -> Result<String, AllocError> {
-    let mut shown = String::new(alloc);
-    for character in text.chars() {
-        let picture = char::from_u32((character as u32).saturating_add(0x2400));
-        shown.push(match character {
-            '\0'..='\x1f' => picture.unwrap_or('?'),
-            '\x7f'..='\u{9f}' => '?',
-            _ => character,
-        })?;
-    }
-    Ok(shown)
 }
 
 /// Returns a value as a text.
@@ -51,102 +38,185 @@ fn field_of(alloc: Global, value: ValueRef<'_>) -> Result<Field, AllocError> {
     })
 }
 
-/// Returns the lines of a table: the names of its columns, and its rows.
-fn fields(alloc: Global, names: &[Bytes], rows: &[Row]) -> Result<Vec<Vec<Field>>, Error> {
-    let mut line = Vec::new(alloc);
-    for name in names {
-        line.push(field_of(alloc, ValueRef::Text(name.as_slice()))?)?;
-    }
-    let mut lines = vec![in alloc; line]?;
-    for row in rows {
-        let mut line = Vec::new(alloc);
-        for at in 0..row.column_count() {
-            line.push(field_of(alloc, row.get_ref(at)?)?)?;
-        }
-        lines.push(line)?;
-    }
-    Ok(lines)
+/// How many rows are shown at once: their columns have one width.
+const PAGE: usize = 1000;
+
+/// What is between two columns.
+const BETWEEN: &str = " | ";
+
+/// The narrowest column of a text that is cut.
+const NARROWEST: usize = 8;
+
+/// Rows that are shown as a table, page by page: the names of the columns, a line under them, the rows, and how many
+/// these are. Numbers stand at the right, and no line takes more than `most` columns of a terminal.
+#[derive(Drop)]
+struct Table {
+    /// The lines of the next page.
+    lines: Vec<Vec<Field>>,
+    widths: Vec<usize>,
+    most: usize,
+    count: u64,
+    has_names: bool,
 }
 
-/// Returns the width of each column: that of its widest text.
-fn column_widths(alloc: Global, lines: &[Vec<Field>]) -> Result<Vec<usize>, AllocError> {
-    let mut widths = Vec::new(alloc);
-    for line in lines {
-        for (at, field) in line.iter().enumerate() {
-            let width = field.text.as_str().width();
-            match widths.get_mut(at) {
-                Some(widest) => *widest = width.max(*widest),
-                None => widths.push(width)?,
-            }
-        }
+/// Returns a text, or what fits of it into `width` columns and `…`.
+fn cut(alloc: Global, text: &str, width: usize) -> Result<String, AllocError> {
+    if text.width() <= width {
+        return String::from_str(alloc, text);
     }
-    Ok(widths)
+    let mut fitting = 0;
+    for (at, _) in text.char_indices() {
+        if text.get(..at).unwrap_or("").width() >= width {
+            break;
+        }
+        fitting = at;
+    }
+    let mut shown = String::from_str(alloc, text.get(..fitting).unwrap_or(""))?;
+    shown.push('…')?;
+    Ok(shown)
+}
+
+/// Returns the columns that a line takes whose fields take up to `widest`.
+fn line_width(widths: &[usize], widest: usize) -> usize {
+    let mut all = BETWEEN.len().saturating_mul(widths.len().saturating_sub(1));
+    for width in widths {
+        all = all.saturating_add(widest.min(*width));
+    }
+    all
+}
+
+/// Returns the widest field with which a line takes up to `most` columns, but not less than `NARROWEST`.
+fn widest_field(widths: &[usize], most: usize) -> usize {
+    if line_width(widths, usize::MAX) <= most {
+        return usize::MAX;
+    }
+    let mut widest = most;
+    for _ in NARROWEST..most {
+        if line_width(widths, widest) <= most {
+            break;
+        }
+        widest = widest.saturating_sub(1);
+    }
+    widest
 }
 
 /// Returns a line of fields, each in the width of its column.
-fn line_text(alloc: Global, fields: &[Field], widths: &[usize]) -> Result<String, AllocError> {
+fn line_text(
+    alloc: Global,
+    fields: &[Field],
+    widths: &[usize],
+    widest: usize,
+) -> Result<String, AllocError> {
     let mut padded = Vec::new(alloc);
     for (field, width) in fields.iter().zip(widths.iter()) {
-        let text = field.text.as_str();
-        let spaces = " ".repeat(alloc, width.saturating_sub(text.width()))?;
+        let text = cut(alloc, field.text.as_str(), widest)?;
+        let width = widest.min(*width);
+        let spaces = " ".repeat(alloc, width.saturating_sub(text.as_str().width()))?;
         padded.push(if field.is_right {
             format!(in alloc; "{spaces}{text}")?
         } else {
             format!(in alloc; "{text}{spaces}")?
         })?;
     }
-    padded.join(alloc, " | ")
+    padded.join(alloc, BETWEEN)
 }
 
 /// Returns the line under the names.
-fn rule_text(alloc: Global, widths: &[usize]) -> Result<String, AllocError> {
+fn rule_text(alloc: Global, widths: &[usize], widest: usize) -> Result<String, AllocError> {
     let mut rules = Vec::new(alloc);
     for width in widths {
-        rules.push("-".repeat(alloc, *width)?)?;
+        rules.push("-".repeat(alloc, widest.min(*width))?)?;
     }
     rules.join(alloc, "-+-")
 }
 
-/// Appends a line without the spaces at its end. If it takes more than `most` columns it is cut, with `…` at its end.
-fn push_line(table: &mut String, line: &str, most: usize) -> Result<(), AllocError> {
-    let line = line.trim_end();
-    if line.width() <= most {
-        table.push_str(line)?;
-        return table.push('\n');
-    }
-    let mut fitting = 0;
-    for (at, _) in line.char_indices() {
-        if line.get(..at).unwrap_or("").width() >= most {
-            break;
+impl Table {
+    /// Creates a table of no rows.
+    fn new(alloc: Global, names: &[Bytes], most: usize) -> Result<Self, AllocError> {
+        let mut line = Vec::new(alloc);
+        for name in names {
+            line.push(field_of(alloc, ValueRef::Text(name.as_slice()))?)?;
         }
-        fitting = at;
+        Ok(Table {
+            lines: vec![in alloc; line]?,
+            widths: Vec::new(alloc),
+            most,
+            count: 0,
+            has_names: false,
+        })
     }
-    table.push_str(line.get(..fitting).unwrap_or(""))?;
-    table.push_str("…\n")
+
+    /// Adds a row. Returns true if a page is full.
+    fn push(&mut self, alloc: Global, row: &Row) -> Result<bool, Error> {
+        let mut line = Vec::new(alloc);
+        for at in 0..row.column_count() {
+            line.push(field_of(alloc, row.get_ref(at)?)?)?;
+        }
+        self.lines.push(line)?;
+        self.count = self.count.saturating_add(1);
+        Ok(self.lines.len() >= PAGE)
+    }
+
+    /// Widens the columns to the widest texts of the page.
+    fn widen(&mut self) -> Result<(), AllocError> {
+        for line in &self.lines {
+            for (at, field) in line.iter().enumerate() {
+                let width = field.text.as_str().width();
+                match self.widths.get_mut(at) {
+                    Some(widest) => *widest = width.max(*widest),
+                    None => self.widths.push(width)?,
+                }
+            }
+        }
+        Ok(())
+    }
+
+    /// Takes the rows of a page, as they are shown. No column is narrower than on the page before.
+    fn page(&mut self, alloc: Global) -> Result<String, AllocError> {
+        self.widen()?;
+        let widths = self.widths.as_slice();
+        let widest = widest_field(widths, self.most);
+        let rule = rule_text(alloc, widths, widest)?;
+        let mut page = String::new(alloc);
+        for fields in &self.lines {
+            let line = line_text(alloc, fields, widths, widest)?;
+            page.push_str(cut(alloc, line.as_str().trim_end(), self.most)?.as_str())?;
+            page.push('\n')?;
+            if !self.has_names {
+                page.push_str(cut(alloc, rule.as_str(), self.most)?.as_str())?;
+                page.push('\n')?;
+                self.has_names = true;
+            }
+        }
+        self.lines.clear();
+        Ok(page)
+    }
+
+    /// Returns the last page, and how many rows there are.
+    fn end(mut self, alloc: Global) -> Result<String, AllocError> {
+        let mut page = self.page(alloc)?;
+        match self.count {
+            1 => page.push_str("(1 row)\n")?,
+            count => write!(page, "({count} rows)\n")?,
+        }
+        Ok(page)
+    }
 }
 
-/// Returns rows as a table: the names of the columns, a line under them, the rows, and how many these are. Numbers
-/// stand at the right, and no line takes more than `most` columns of a terminal.
+/// Returns rows as a table.
 pub fn table_text(
     alloc: Global,
     names: &[Bytes],
     rows: &[Row],
     most: usize,
 ) -> Result<String, Error> {
-    let lines = fields(alloc, names, rows)?;
-    let widths = column_widths(alloc, &lines)?;
-    let rule = rule_text(alloc, &widths)?;
-    let mut table = String::new(alloc);
-    for (at, fields) in lines.iter().enumerate() {
-        let line = line_text(alloc, fields, &widths)?;
-        push_line(&mut table, line.as_str(), most)?;
-        if at == 0 {
-            push_line(&mut table, rule.as_str(), most)?;
+    let mut table = Table::new(alloc, names, most)?;
+    let mut text = String::new(alloc);
+    for row in rows {
+        if table.push(alloc, row)? {
+            text.push_str(table.page(alloc)?.as_str())?;
         }
     }
-    match rows.len() {
-        1 => table.push_str("(1 row)\n")?,
-        count => write!(table, "({count} rows)\n")?,
-    }
-    Ok(table)
+    text.push_str(table.end(alloc)?.as_str())?;
+    Ok(text)
 }

@@ -1,5 +1,5 @@
 -- A menu tells at each event of a run what stands in the line.
-use Rattle.std.proofs.Common.{◌≡◌, ◌==◌, ◌<◌, ◌&&◌, not, ℕ, zero, suc, slice_get, List, [], ◌∷◌, cond, Bool, true, false, nat_lt, length, refl, ap, sym, subst, ◌∙◌, arith, Option, None, Some, option_map, Result, Ok, Err, if◌then◌else◌}
+use Rattle.std.proofs.Common.{◌≡◌, ◌==◌, ◌<◌, ◌&&◌, ◌||◌, not, ℕ, zero, suc, slice_get, List, [], ◌∷◌, cond, Bool, true, false, nat_lt, length, refl, ap, sym, subst, ◌∙◌, arith, Option, None, Some, option_map, Result, Ok, Err, if◌then◌else◌}
 use Rattle.std.proofs.lemmas.Bool.{false≢true, eqb-true, ltb-true}
 use Rattle.std.proofs.lemmas.Slice.Eq.{bytes_eq-Decides}
 use Rattle.std.specs.Bool.{⊤}
@@ -22,17 +22,18 @@ use Rattle.tw_lineedit.specs.Run.{Progress, Ending, progress_of, run, ends, at_n
 use Rattle.tw_lineedit.specs.Reading.{start}
 use Rattle.tw_lineedit.specs.Stations.{Station, station_at, stations_after, stations_unless, stations_by, stations_from}
 use Rattle.tw_key_parts.specs.KeyRules.{Edited, KeyRules}
-use Rattle.tw_key_parts.specs.Keys.{is_key}
 use Rattle.tw_key_parts.specs.Ring.{is_same_cut}
 use Rattle.tw_key_parts.specs.SearchWatch.{has_lines, searches_after}
-use Rattle.tw_prompt_host.specs.Going.{going_at_rest, before_search_after, comes_back_after, give_up_key, event_line}
+use Rattle.tw_prompt_host.specs.Going.{going_at_rest, before_search_after, comes_back_after, gives_up, event_line}
 use Rattle.tw_prompt_host.specs.Menu.{asks, is_completing, is_still, menu_after, menu_begun, open_if, step_of_menu, stepped, turn_line, turn_unless, turned}
 use Rattle.tw_prompt_host.specs.MenuLayout.{Shown}
-use Rattle.tw_prompt_host.specs.PromptRules.{Answer, Prompted, answered, completing, edit_at, fails_by_key, found, is_kept, judged, opens_row, prompt_rules, turn_at, is_accepting}
+use Rattle.tw_prompt_host.specs.PromptRules.{Answer, Prompted, accepting_at, answered, completing, edit_at, fails_at, found, judged, prompt_rules, turn_at}
+use Rattle.tw_prompt_host.specs.Verdicts.{said, verdict_on}
+use Rattle.tw_prompt_host.specs.declared.answers.Verdict.{Verdict}
+use Rattle.tw_prompt_host.specs.declared.answers.Verdict.TheVariants.{Passes}
 use Rattle.tw_prompt_host.specs.declared.going.Going.{Going}
 use Rattle.tw_prompt_host.specs.declared.menu.Menu.{Menu}
 use Rattle.tw_prompt_host.specs.declared.menu.Menu.TheVariants.{Closed, Unseen, Few, Open}
-use Rattle.tw_prompt_host.proofs.SearchLemmas.{said_all}
 use Rattle.laws_prompt.specs.MenuRuns.{ClosesAfterLines, IsMenuTold, TellsLine, TellsLines}
 use Rattle.laws_prompt.specs.SearchRuns.{is_searching}
 use Rattle.laws_prompt.proofs.ActionLemmas as action
@@ -186,12 +187,12 @@ module _ {V S K : Type 0} (keys : KeyRules S K) (rules : HostRules V) where
         let quiet = subst (λ m. IsQuiet m v.going.searching v.going.comes_back) shown fits.quiet in
         same_is cut after same ∙ ap (λ back. event_line (record v.going { comes_back = back }) s.cut) quiet.1
 
-    unturned : (answer : Answer K) (value : V) (back fails : Bool) → Led (judged keys rules v e cut value answer None back fails)
-    unturned answer value back fails =
-        let r = judged keys rules v e cut value answer None back fails in
+    unturned : (answer : Answer K) (value : V) (verdict : Verdict) (fails : Bool) → Led (judged keys rules v e cut value answer None verdict fails)
+    unturned answer value verdict fails =
+        let r = judged keys rules v e cut value answer None verdict fails in
         let same = is_same_cut cut answer.cut in (
           applied_if keys rules r.value v.going.menu s answer.cut same (λ x shown. stays x answer.cut shown) going told_line (or_default r.action e) refl,
-          quiet_after (is_key give_up_key e) (has_lines v.lines) same v.going v.going.menu fits.still fits.quiet (or_default r.action e),
+          quiet_after (gives_up e) (has_lines v.lines) same v.going v.going.menu fits.still fits.quiet (or_default r.action e),
         )
 
     -- a menu to which the event turns
@@ -246,47 +247,44 @@ module _ {V S K : Type 0} (keys : KeyRules S K) (rules : HostRules V) where
     turns_at (Few candidates) turn is begun = begun_turns (Few candidates) turn _ _ is refl begun
     turns_at (Open x) turn is leads = open_turns x _ _ turn is leads
 
-    turned_to : (turn : Menu) (rcut : Cut) (value : V) (kept fails : Bool) → Turns turn
+    turned_to : (turn : Menu) (rcut : Cut) (value : V) (accept : Verdict) (lines fails : Bool) → Turns turn
         → let answer = answered None (completing None (turn_line (Some turn))) rcut in
-        Led (judged keys rules v e cut value answer (Some turn) (kept && is_accepting (or_default answer.action e)) fails)
+        Led (judged keys rules v e cut value answer (Some turn) (verdict_on accept lines (or_default answer.action e)) fails)
     unfolding apply
-    turned_to Closed rcut value kept fails turns = absurd turns.ready
-    turned_to Unseen rcut value kept fails turns = absurd turns.ready
-    turned_to (Few candidates) rcut value kept fails turns =
+    turned_to Closed rcut value accept lines fails turns = absurd turns.ready
+    turned_to Unseen rcut value accept lines fails turns = absurd turns.ready
+    turned_to (Few candidates) rcut value accept lines fails turns =
         let answer = answered None None rcut in
-        let r = judged keys rules v e cut value answer (Some (Few candidates)) (kept && is_accepting (action_of e)) fails in
+        let r = judged keys rules v e cut value answer (Some (Few candidates)) (verdict_on accept lines (action_of e)) fails in
         let action : or_default r.action e ≡ Some Complete =
-        ap (λ a. or_default a e) (said_all kept (opens_row keys rules v) (action_of e) None (ap is_accepting turns.ready.1)) ∙ turns.ready.1 in (
+        ap (λ a. or_default (said (verdict_on accept lines a) None) e) turns.ready.1 ∙ turns.ready.1 in (
           subst (λ a. Leads (Few candidates) (apply_if Host r.value a (record s { cut = rcut }))) (sym action)
               (completes (record s { cut = rcut }) going (Few candidates) (found keys rules r.value) (sym fits.watch ∙ turns.still) turns.none turns.ready.0),
           tt,
         )
-    turned_to (Open m) rcut value kept fails turns =
+    turned_to (Open m) rcut value accept lines fails turns =
         let answer = answered None (completing None (Some m.line)) rcut in
-        let r = judged keys rules v e cut value answer (Some (Open m)) (kept && is_accepting (Some Complete)) fails in
-        let action : or_default r.action e ≡ Some Complete = ap (λ a. or_default a e) (said_all kept (opens_row keys rules v) (Some Complete) (Some Complete) refl) in
-        let gave = is_key give_up_key e in (
-          subst (λ a. Leads (Open m) (apply_if Host r.value a (record s { cut = m.line }))) (sym action)
-              (completes (record s { cut = m.line }) going (Open m) (found keys rules r.value) (sym fits.watch ∙ turns.still) turns.none (turns.ready.0, turns.ready.1, refl)),
-          subst (λ a. IsQuiet (Open m) (searches_after (has_lines v.lines) a v.going.searching) (comes_back_after gave (searches_after (has_lines v.lines) a v.going.searching) v.going.before_search)) (sym action)
-              (refl, none_back gave false v.going.before_search (fits.still turns.still)),
+        let r = judged keys rules v e cut value answer (Some (Open m)) Passes fails in (
+          completes (record s { cut = m.line }) going (Open m) (found keys rules r.value) (sym fits.watch ∙ turns.still) turns.none (turns.ready.0, turns.ready.1, refl),
+          (refl, none_back (gives_up e) false v.going.before_search (fits.still turns.still)),
         )
 
-    led_by : (own : Option ActionView) (rcut : Cut) (value : V) (edit : Option (Edited (Option K))) (turn : Option Menu) (kept fails : Bool) → turn_at keys rules v e cut ≡ turn
+    led_by : (own : Option ActionView) (rcut : Cut) (value : V) (edit : Option (Edited (Option K))) (turn : Option Menu) (accept : Verdict) (lines fails : Bool) → turn_at keys rules v e cut ≡ turn
         → let answer = answered own (completing edit (turn_line turn)) rcut in
-        Led (judged keys rules v e cut value answer (turn_unless own edit turn) (kept && is_accepting (or_default answer.action e)) fails)
-    led_by (Some a) rcut value edit turn kept fails is =
-        let answer : Answer K = answered (Some a) (completing edit (turn_line turn)) rcut in unturned answer value (kept && is_accepting (or_default answer.action e)) fails
-    led_by None rcut value (Some edit) turn kept fails is =
-        let answer : Answer K = answered None (completing (Some edit) (turn_line turn)) rcut in unturned answer value (kept && is_accepting (or_default answer.action e)) fails
-    led_by None rcut value None None kept fails is =
-        let answer : Answer K = answered None (completing None (turn_line None)) rcut in unturned answer value (kept && is_accepting (or_default answer.action e)) fails
-    led_by None rcut value None (Some turn) kept fails is = turned_to turn rcut value kept fails (turns_at v.going.menu turn refl is)
+        Led (judged keys rules v e cut value answer (turn_unless own edit turn) (verdict_on accept lines (or_default answer.action e)) fails)
+    led_by (Some a) rcut value edit turn accept lines fails is =
+        let answer : Answer K = answered (Some a) (completing edit (turn_line turn)) rcut in unturned answer value (verdict_on accept lines (or_default answer.action e)) fails
+    led_by None rcut value (Some edit) turn accept lines fails is =
+        let answer : Answer K = answered None (completing (Some edit) (turn_line turn)) rcut in unturned answer value (verdict_on accept lines (or_default answer.action e)) fails
+    led_by None rcut value None None accept lines fails is =
+        let answer : Answer K = answered None (completing None (turn_line None)) rcut in unturned answer value (verdict_on accept lines (or_default answer.action e)) fails
+    led_by None rcut value None (Some turn) accept lines fails is = turned_to turn rcut value accept lines fails (turns_at v.going.menu turn refl is)
 
     led : Led (Host.resolve v e s.cut)
     led =
         let own = rules.resolve v.host e cut in
-        led_by own.action own.cut own.value (edit_at keys rules v e cut) (turn_at keys rules v e cut) (is_kept keys rules v cut.line) (fails_by_key keys rules v e cut) refl
+        led_by own.action own.cut own.value (edit_at keys rules v e cut) (turn_at keys rules v e cut)
+        (accepting_at keys rules v cut.line) (v.going.searching || has_lines v.lines) (fails_at keys rules v e cut own.action) refl
 
   -- a prompt fits how far a run has come
   abbrev IsRight : Progress (Prompted V S) → Type 0

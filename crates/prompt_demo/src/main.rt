@@ -18,9 +18,7 @@ use tw_device::{AnsiTerminal, Answer, DeviceTerminal};
 use tw_history_parts::RecentHistory;
 use tw_hosts::TableHost;
 use tw_lineedit::BasicHistory;
-use tw_prompt::{
-    Arguments, Prompt, PromptEvents, TerminalInput, TypedEvents, open_streams, read_listing,
-};
+use tw_prompt::{Arguments, Prompt, TerminalInput, open_streams, read_listing};
 use tw_prompt_host::NestedLines;
 use tw_sparing::{PatientTerminal, SparingTerminal};
 use tw_terminal::ScreenSize;
@@ -79,36 +77,49 @@ fn serve<T: DeviceTerminal + Drop>(
 /// Reads lines at a terminal.
 fn serve_at<T: DeviceTerminal + Drop>(
     rt: HostRuntime,
-    events: TypedEvents<TerminalInput, HostRuntime>,
+    input: TerminalInput,
     terminal: T,
     size: ScreenSize,
 ) -> Result<(), anyhow::Error> {
     let host = demo_host(rt.alloc(), PROMPT)?;
-    serve(rt, Prompt::at_terminal(rt, host, events, terminal, size)?)
+    serve(rt, Prompt::at_terminal(rt, host, input, terminal, size)?)
+}
+
+/// What the terminal is sent.
+#[derive(Clone, Copy)]
+enum Way {
+    Plain,
+    Sparing,
+    Patient,
+}
+
+/// Parses the program's own arguments.
+fn way_of(words: &[String]) -> Result<Way, anyhow::Error> {
+    let Some(word) = words.first() else {
+        return Ok(Way::Plain);
+    };
+    match word.as_str() {
+        "sparing" if words.len() == 1 => Ok(Way::Sparing),
+        "patient" if words.len() == 1 => Ok(Way::Patient),
+        _ => Err(anyhow!("usage: prompt_demo [sparing|patient]")),
+    }
 }
 
 fn main(rt: HostRuntime) -> Result<(), anyhow::Error> {
     let alloc = rt.alloc();
     let arguments = Arguments::read(rt)?;
+    let way = way_of(&arguments.own)?;
     let Some(size) = arguments.size else {
         return serve(rt, Prompt::at_pipe(rt, demo_host(alloc, PROMPT)?)?);
     };
     let file = arguments.file.as_ref().map(|file| file.as_str());
     let (input, output) = open_streams(rt, file)?;
-    match arguments.own.as_slice().first().map(|way| way.as_str()) {
-        None => {
-            let terminal = AnsiTerminal::new(alloc, output, size);
-            serve_at(rt, PromptEvents::new(alloc, input, rt), terminal, size)
-        }
-        Some("sparing") => {
-            let terminal = SparingTerminal::new(alloc, output, size);
-            serve_at(rt, PromptEvents::new(alloc, input, rt), terminal, size)
-        }
-        Some("patient") => {
+    match way {
+        Way::Plain => serve_at(rt, input, AnsiTerminal::new(alloc, output, size), size),
+        Way::Sparing => serve_at(rt, input, SparingTerminal::new(alloc, output, size), size),
+        Way::Patient => {
             let terminal = PatientTerminal::new(alloc, output, size);
-            let events = PromptEvents::reading_ahead(alloc, input, rt);
-            serve_at(rt, events, terminal, size)
+            serve_at(rt, input.reading_ahead(), terminal, size)
         }
-        Some(word) => Err(anyhow!("no argument has the name {word}")),
     }
 }

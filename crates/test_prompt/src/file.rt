@@ -38,7 +38,11 @@ impl Write for Full {
 /// Returns the lines of a file in which lines are kept, and what was not read of it.
 fn read(alloc: Global, text: &str) -> Result<String, Fail> {
     let bytes = bytes_of(alloc, text)?;
-    let history = resume(alloc, &bytes, Vec::new(alloc))?;
+    read_bytes(alloc, &bytes)
+}
+
+fn read_bytes(alloc: Global, bytes: &[u8]) -> Result<String, Fail> {
+    let history = resume(alloc, bytes, Vec::new(alloc))?;
     let lines = lines_text(alloc, &history)?;
     match history.unread() {
         Some(unread) => Ok(format!(in alloc; "{unread}; {lines}")?),
@@ -68,6 +72,20 @@ fn write(alloc: Global, command: &str) -> Result<String, Fail> {
         }
     }
     Ok(String::from_utf8(bytes)?)
+}
+
+/// Returns what `read` returns for the bytes of a file once lines are added to it: `BYTES<LINE|LINE..`.
+fn write_and_read(alloc: Global, command: &str) -> Result<String, Fail> {
+    let (text, lines) = command.split_once('<').ok_or("no lines")?;
+    let mut bytes = bytes_of(alloc, text)?;
+    let before = bytes.clone()?;
+    {
+        let mut history = resume(alloc, &before, &mut bytes)?;
+        for line in lines.split('|') {
+            history.add(line)?;
+        }
+    }
+    read_bytes(alloc, &bytes)
 }
 
 /// Returns the failure after each line that is added, and the lines.
@@ -123,13 +141,14 @@ fn write_long(alloc: Global, count: &str) -> Result<String, Fail> {
     Ok(format!(in alloc; "{} {is_same}", bytes.len())?)
 }
 
-/// Runs `read BYTES`, `write BYTES<LINES`, `long LETTERS`, `full CALLS BYTES<LINES`, `unwritten LINES` or
+/// Runs `read BYTES`, `write BYTES<LINES`, `again BYTES<LINES`, `long LETTERS`, `full CALLS BYTES<LINES`, `unwritten LINES` or
 /// `memory LINES`.
 fn obey(alloc: Global, command: &str) -> Result<String, Fail> {
     let (word, rest) = command.split_once(' ').unwrap_or((command, ""));
     match word {
         "read" => read(alloc, rest),
         "write" => write(alloc, rest),
+        "again" => write_and_read(alloc, rest),
         "long" => write_long(alloc, rest),
         "full" => write_full(alloc, rest),
         _ => write_nowhere(alloc, word, rest),
@@ -141,18 +160,28 @@ const FILES: &str = r#"
 read =>
 read one\ntwo\n => "one" "two"
 read one\ntwo => lines that can't be read: 1; "one"
-read \n\n => ""
 read a\\nb\\\\n\n => "a\\nb\\\\n"
 read one\ntw\\o\nthree\\\nfour\n => lines that can't be read: 2; "one" "four"
 read one\n\xff\n一\n => lines that can't be read: 1; "one" "一"
 read \xff\none\n\xfe\ntwo\ncut => lines that can't be read: 3; "one" "two"
 read one\r\n => "one\\r"
 
+// an empty line is no entry, and is not counted
+read \n\n =>
+read one\n\n\ntwo\n => "one" "two"
+
 // lines are written as they are added, and a line that was cut off is ended first
 write <ls|a\nb|c:\\new| => ls\na\\nb\nc:\\\\new\n\n
 write one\n<two => two\n
-write one\ntw<two => \ntwo\n
-read ls\na\\nb\nc:\\\\new\n\n => "ls" "a\\nb" "c:\\\\new" ""
+write one\ntw<two => \\-\\\ntwo\n
+read ls\na\\nb\nc:\\\\new\n\n => "ls" "a\\nb" "c:\\\\new"
+
+// a line that was cut off, wherever, is none in the next session either
+again one\ntw<two => lines that can't be read: 1; "one" "two"
+again one\ntw\\<two => lines that can't be read: 1; "one" "two"
+again one\ntw\\\\<two => lines that can't be read: 1; "one" "two"
+again one\n\xe4\xb8<two => lines that can't be read: 1; "one" "two"
+again one\n\\<two|| => lines that can't be read: 1; "one" "two"
 
 // however long a line is
 long 600 => 601 true

@@ -58,6 +58,7 @@ remember copy d\ne; rows . ; type cop\nkey Right => copy d\ne
 // or under the line
 hints under; type cop; ends cop\r\n{}y x => cop; yes
 hints under; type z; ends z => z; yes
+remember copy d\ne; hints under; type cop; ends cop\r\n{}y d… => cop; yes
 ";
 
 #[test]

@@ -9,6 +9,8 @@ mod completers;
 #[cfg(test)]
 mod devices;
 #[cfg(test)]
+mod edited_lines;
+#[cfg(test)]
 mod file;
 #[cfg(test)]
 mod hints;
@@ -38,6 +40,8 @@ mod row_cells;
 mod row_keys;
 #[cfg(test)]
 mod rows;
+#[cfg(test)]
+mod searches;
 #[cfg(test)]
 mod settling;
 #[cfg(test)]

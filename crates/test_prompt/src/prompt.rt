@@ -6,32 +6,17 @@ use std::test::Fail;
 use test_cases::{expect_rows, painted_text, script_events};
 use tw_hosts::{PromptScreen, TableHost};
 use tw_input::{InputEvent, KeyCode, KeyEvent, Modifiers};
-use tw_key_parts::{
-    Keys, KillRing, LastWords, LetterWords, PrefixSearch, ReadlineKeys, RowKeys, UndoSteps,
-    WordKeys,
-};
+use tw_key_parts::RowKeys;
 use tw_lineedit::{BasicHistory, LineEditor, LineEditorHost};
+use tw_prompt::{AllKeys, all_keys};
 use tw_prompt_host::{Going, Hints, MenuStyle, NestedLines, PromptHost, Rows, common_pairs};
 use tw_surface::{CellAttributes, Intensity};
 use tw_terminal::{ScreenSize, ScriptTerminal};
 
-type WordParts = (Keys<LetterWords>, (Keys<ReadlineKeys>, Keys<WordKeys>));
-
-type HistoryParts = (LastWords, PrefixSearch);
-
-type AllKeys = (UndoSteps, (WordParts, (HistoryParts, (RowKeys, KillRing))));
+type Keys = (RowKeys, AllKeys);
 
 /// A prompt with all parts.
-pub type Prompt = PromptHost<TableHost<BasicHistory>, BasicHistory, AllKeys, NestedLines>;
-
-fn all_keys(alloc: Global) -> AllKeys {
-    let words = (Keys(LetterWords), (Keys(ReadlineKeys), Keys(WordKeys)));
-    let history = (LastWords::new(), PrefixSearch::new());
-    (
-        UndoSteps::new(alloc),
-        (words, (history, (RowKeys::new(), KillRing::new(alloc)))),
-    )
-}
+pub type Prompt = PromptHost<TableHost<BasicHistory>, BasicHistory, Keys, NestedLines>;
 
 /// Returns a menu whose chosen candidate is bold.
 fn bold_menu(cols: usize, rows: usize) -> MenuStyle {
@@ -53,7 +38,7 @@ pub fn new_prompt(alloc: Global) -> Result<Prompt, Fail> {
         history: BasicHistory::new(alloc),
         completers: Vec::new(alloc),
         listings: Vec::new(alloc),
-        keys: all_keys(alloc),
+        keys: (RowKeys::new(), all_keys(alloc)),
         hints: Hints::dim(),
         stops_failing_searches: true,
         validator: NestedLines { pairs },
@@ -98,14 +83,15 @@ fn events_of(alloc: Global, script: &str) -> Result<Vec<InputEvent>, Fail> {
     Ok(events)
 }
 
-/// Reads a line from a script. Returns the line and the text of the last painting.
+/// Reads a line from a script. Returns the line, or `cancelled`, and the text of the last painting.
 fn read_script(alloc: Global, prompt: &mut Prompt, script: &str) -> Result<(String, String), Fail> {
     prompt.begin_line();
     let size = ScreenSize { rows: 24, cols: 80 };
     let mut terminal = ScriptTerminal::new(alloc, size, events_of(alloc, script)?);
     let answer = LineEditor::new(alloc, &mut terminal)?.read_line(prompt);
     let line = match answer {
-        Ok(line) => line.ok_or("cancelled")?,
+        Ok(Some(line)) => line,
+        Ok(None) => String::from_str(alloc, "cancelled")?,
         Err(error) => format!(in alloc; "refusal {}", error.number())?,
     };
     Ok((line, shown_text(alloc, &terminal)?))

@@ -37,6 +37,9 @@ type mine\nkey C-R\ntype co\nkey C-_\nkey Enter => copy a
 type mine\nkey C-R\ntype co\nkey Right\nkey C-_\nkey Enter => mine
 type mine\nkey C-R\ntype co\nkey C-W\nkey End\nkey C-Y\nkey Enter => copy a
 
+// Escape takes the line that a search found
+type mine\nkey C-R\ntype op\nkey Escape\ntype X\nkey Enter => cXopy a
+
 // keys do what readline says
 type ab cd\nkey Left\nkey C-U\nkey Enter => d
 type abc\nkey C-A\nkey C-D\nkey Enter => bc

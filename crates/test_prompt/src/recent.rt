@@ -27,11 +27,16 @@ fn found(alloc: Global, history: &RecentHistory, sought: &str) -> Result<String,
 }
 
 /// Returns the lines of a history after additions: `newest LIMIT; LINE;LINE..`, or `once LIMIT; ..` if no line is kept
-/// twice. Prefix: `find INDEX PATTERN; ` returns what is found.
+/// twice. Prefix: `find INDEX PATTERN; ` returns what is found; `all ` adds the lines at once, `more ` all but the first.
 fn kept(alloc: Global, command: &str) -> Result<String, Fail> {
     let (sought, command) = match command.strip_prefix("find ") {
         Some(rest) => rest.split_once("; ").ok_or("no history")?,
         None => ("", command),
+    };
+    let (alone, command) = match command.split_once(' ') {
+        Some(("all", rest)) => (0, rest),
+        Some(("more", rest)) => (1, rest),
+        _ => (usize::MAX, command),
     };
     let (named, lines) = command.split_once("; ").ok_or("no lines")?;
     let (word, limit) = named.split_once(' ').ok_or("no limit")?;
@@ -40,9 +45,14 @@ fn kept(alloc: Global, command: &str) -> Result<String, Fail> {
         "once" => RecentHistory::unique(alloc, limit),
         _ => RecentHistory::new(alloc, limit),
     };
-    for line in lines.split(';') {
+    for line in lines.split(';').take(alone) {
         history.add(line)?;
     }
+    let mut others = Vec::new(alloc);
+    for line in lines.split(';').skip(alone) {
+        others.push(String::from_str(alloc, line)?)?;
+    }
+    history.add_all(&others)?;
     if sought.is_empty() {
         lines_text(alloc, &history)
     } else {
@@ -61,6 +71,15 @@ once 9; a;b;;a;ab;;b => "a" "ab" "" "b"
 once 9; a;b;;a;ab;;b;b; b => "a" "ab" "" "b" " b"
 once 3; a;b;c;a;d => "c" "a" "d"
 once 1; a;b;a => "a"
+
+// many lines at once leave what one after the other leaves
+all once 9; a;b;;a;ab;;b;b; b => "a" "ab" "" "b" " b"
+all once 3; a;b;c;a;d => "c" "a" "d"
+all once 1; a;b;a => "a"
+all newest 3; a;b;b;a => "a" "b" "a"
+more once 3; a;b;c;a;d => "c" "a" "d"
+more once 4; a;b;b;c;d;b => "a" "c" "d" "b"
+more newest 3; a;b;b;a => "a" "b" "a"
 
 // the newest line is found
 find 2 make; once 9; make a;ls;make b;make a => 2 0

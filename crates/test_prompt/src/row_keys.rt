@@ -33,6 +33,11 @@ remember one\ntwo; key Up\nkey Up\ntype X => oneX\ntwo
 remember one\ntwo; key Up\nkey Up\nkey Up => older
 remember one\ntwo; key Up\nkey Up\nkey Down\nkey Down =>
 
+// an edited line of several rows comes back, and the history stays as it was
+remember one\ntwo; key Up\nkey Up\ntype X\nkey Up\nkey Down => oneX\ntwo
+remember one\ntwo; key Up\nkey Up\ntype X\nkey Up\nkey Enter; key Up\nkey Up\nkey Up\nkey Down => older; one\ntwo
+remember one\ntwo; key Up\nkey Up\ntype X\nkey A-r => one\ntwo
+
 // Home and End go to the ends of the row
 type ab\nkey A-Enter\ntype cd\nkey Home\ntype X => ab\nXcd
 type ab\nkey A-Enter\ntype cd\nkey C-A\nkey Home\ntype X => ab\nXcd
@@ -48,6 +53,14 @@ type ab\nkey A-Enter\ntype cd\nkey Up\nkey C-K\ntype X => abXcd
 type ab\nkey A-Enter\ntype cd\nkey Up\nkey Home\nkey C-K\nkey Down\nkey C-Y => \nabcd
 type ab\nkey A-Enter\ntype cd\nkey Up\nkey Home\nkey C-K\nkey C-K\ntype X\nkey C-Y => Xab\ncd
 type ab\nkey A-Enter\ntype cd\nkey Home\nkey C-K\ntype X => ab\nX
+
+// Ctrl-U kills to the start of the row, and there the line feed before it, and Ctrl-Y brings it back
+type ab\nkey A-Enter\ntype cd\nkey C-U\ntype X => ab\nX
+type ab\nkey A-Enter\ntype cd\nkey Left\nkey C-U\nkey C-Y => ab\ncd
+type ab\nkey A-Enter\ntype cd\nkey Home\nkey C-U\ntype X => abXcd
+type ab\nkey A-Enter\ntype cd\nkey C-U\nkey C-U\nkey C-Y => ab\ncd
+type ab\nkey A-Enter\ntype cd\nkey Up\nkey Left\nkey C-U\ntype X => Xb\ncd
+type ab\nkey A-Enter\ntype cd\nkey Left\nkey C-W\nkey C-X\nkey C-U => ab\ncd
 
 // Backspace at a row's start joins it to the row before
 type ab\nkey A-Enter\ntype cd\nkey Home\nkey Backspace\ntype X => abXcd

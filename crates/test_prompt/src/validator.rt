@@ -16,31 +16,20 @@ type f(x\nkey Enter\nkey Left; ends f(x => f(x; yes
 type "a\"b"\nkey Enter\ntype z => "a\"b"
 type "a\"\nkey Enter; ends " is open => "a\"; yes
 
-// a validator judges no pattern, and judges the line that a search finds
-key C-R\ntype op\nkey Enter\ntype z; ends open( => open(; yes
-key C-R\ntype c\nkey C-Left\ntype (\nkey Enter\ntype z => (zcopy a
-// a search that fails says so after the line that it found last, and accepts none
-key C-R\ntype z; ends {}open({}  failing: no line has it{}{}\r\nbck-i-search: z_ => z; yes
-key C-R\ntype zz\nkey Backspace; ends {}open({}  failing: no line has it{}{}\r\nbck-i-search: z_ => z; yes
-key C-R\ntype oz\nkey Backspace; ends {}open({}\r\nbck-i-search: o_ => o; yes
-type z\nkey C-R; ends {}open({}\r\nbck-i-search: _ => ; yes
-key C-R\ntype z\nkey C-R; ends {}open({}  failing: no line has it{}{}\r\nbck-i-search: z_ => z; yes
-key C-R\ntype z\nkey Up; ends {}open({}  failing: no line has it{}{}\r\nbck-i-search: z_ => z; yes
-searches accept; key C-R\ntype z; ends {}open({}\r\nbck-i-search: z_ => z; yes
-key C-R\ntype zz\nkey Enter; ends {}open({}  failing: no line has it{}{}\r\nbck-i-search: zz_ => zz; yes
-key C-R\ntype zz\nkey Enter\nkey Backspace; ends {}open({}  failing: no line has it{}{}\r\nbck-i-search: z_ => z; yes
-key C-R\ntype copz\nkey Enter\nkey Backspace\nkey Enter => copy a
-searches accept; key C-R\ntype copz\nkey Enter => copy a
-// Ctrl-G gives a search up: the line from before it comes back with its cursor
-type ab\nkey Left\nkey C-R\ntype op\nkey C-G\ntype X => aXb
-type ab\nkey C-R\ntype op\nkey C-R\nkey C-G\nkey Home\ntype X => Xab
-type ab\nkey C-R\ntype zz\nkey C-G\nkey C-A\ntype X => Xab
-type ab\nkey C-R\ntype op\nkey C-G\nkey C-R\ntype c\nkey C-G\ntype X => abX
-type ab\nkey C-G\ntype X => abX
 // where lines are shown in rows, Enter begins a row in a line that is open, and accepts a whole one
 rows . ; type f(\nkey Enter\ntype x)\nkey Enter\ntype z => f(\nx)
 rows . ; type f(\nkey Enter; ends f(\r\n.  => f(\n; yes
-rows . ; key C-R\ntype zz\nkey Enter; ends {}open({}  failing: no line has it{}{}\r\nbck-i-search: zz_ => zz; yes
+
+// a line that no row can make whole is kept there too
+rows . ; type a)\nkey Enter; ends ) closes nothing => a); yes
+rows . ; type a) b\nkey Enter\nkey Enter\nkey Enter => a) b
+rows . ; type f(\nkey Enter\ntype x]\nkey Enter; ends ] closes nothing => f(\nx]; yes
+
+// while a menu is open the reason stands in its place
+menu 80 4 f(a f(b; type f(\nkey Tab\nkey Enter; ends ( is open => f(a; yes
+menu 80 4 f(a f(b; type f(\nkey Tab\nkey Enter\nkey Tab; ends f(b\r\n{}f(a  {bold}f(b{} => f(b; yes
+menu 80 4 a)b a)c; rows . ; type a)\nkey Tab\nkey Enter; ends ) closes nothing => a)b; yes
+
 // a key of the parts ends what is said of the line
 type f(x y\nkey Enter\nkey A-t; ends y f(x => y f(x; yes
 "#;

@@ -33,7 +33,7 @@ pub alt_letter_keys : AltLetterKeys
 unfolding token_at
 alt_letter_keys = (
   (λ l r. refl, (λ l r. refl, (λ l r. refl, (λ l r. refl, (λ l r. refl, (λ l r. refl, (λ l r. refl, (λ l r. refl, (λ l r. refl, (λ l r. refl, tt)))))))))),
-  (λ l r. refl, (λ l r. refl, (λ l r. refl, (λ l r. refl, (λ l r. refl, (λ l r. refl, (λ l r. refl, (λ l r. refl, (λ l r. refl, (λ l r. refl, (λ l r. refl, tt))))))))))),
+  (λ l r. refl, (λ l r. refl, (λ l r. refl, (λ l r. refl, (λ l r. refl, (λ l r. refl, (λ l r. refl, (λ l r. refl, (λ l r. refl, (λ l r. refl, (λ l r. refl, (λ l r. refl, (λ l r. refl, (λ l r. refl, (λ l r. refl, (λ l r. refl, (λ l r. refl, (λ l r. refl, (λ l r. refl, (λ l r. refl, (λ l r. refl, (λ l r. refl, (λ l r. refl, (λ l r. refl, (λ l r. refl, (λ l r. refl, (λ l r. refl, (λ l r. refl, tt)))))))))))))))))))))))))))),
 )
 
 pub back_tab : BackTab
@@ -46,7 +46,7 @@ control_keys = (λ n l r. refl, (λ n l r. refl, (λ n l r. refl, (λ n l r. ref
 
 pub application_keys_typed : ApplicationKeys
 unfolding token_at parameters_token
-application_keys_typed = (λ l r. refl, (λ l r. refl, (λ l r. refl, (λ l r. refl, (λ l r. refl, (λ l r. refl, (λ l r. refl, (λ l r. refl, (λ l r. refl, (λ l r. refl, (λ l r. refl, tt)))))))))))
+application_keys_typed = (λ l r. refl, (λ l r. refl, (λ l r. refl, (λ l r. refl, (λ l r. refl, (λ l r. refl, (λ l r. refl, (λ l r. refl, (λ l r. refl, (λ l r. refl, (λ l r. refl, (λ l r. refl, (λ l r. refl, (λ l r. refl, (λ l r. refl, (λ l r. refl, (λ l r. refl, (λ l r. refl, (λ l r. refl, (λ l r. refl, (λ l r. refl, (λ l r. refl, (λ l r. refl, (λ l r. refl, (λ l r. refl, (λ l r. refl, (λ l r. refl, (λ l r. refl, tt))))))))))))))))))))))))))))
 
 pub letter_keys_typed : LetterKeys
 unfolding token_at parameters_token

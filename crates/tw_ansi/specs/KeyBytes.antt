@@ -17,11 +17,14 @@ KeyRows = List (ℕ × KeyCode)
 abbrev pub control_characters : KeyRows
 control_characters = (8, Backspace) ∷ (9, Tab) ∷ (10, Enter) ∷ (13, Enter) ∷ (27, Escape) ∷ (127, Backspace) ∷ []
 
--- the keys of ESC O and a letter
+-- the keys of ESC O and a letter: those of the application mode, the keypad's signs and digits among them
 abbrev pub application_keys : KeyRows
 application_keys =
     (65, ApplicationUpArrow) ∷ (66, ApplicationDownArrow) ∷ (67, ApplicationRightArrow) ∷ (68, ApplicationLeftArrow)
-    ∷ (70, End) ∷ (72, Home) ∷ (77, Enter) ∷ (80, Function 1) ∷ (81, Function 2) ∷ (82, Function 3) ∷ (83, Function 4) ∷ []
+    ∷ (70, End) ∷ (72, Home) ∷ (77, Enter) ∷ (80, Function 1) ∷ (81, Function 2) ∷ (82, Function 3) ∷ (83, Function 4)
+    ∷ (88, Char 61) ∷ (106, Char 42) ∷ (107, Char 43) ∷ (108, Char 44) ∷ (109, Char 45) ∷ (110, Char 46) ∷ (111, Char 47)
+    ∷ (112, Char 48) ∷ (113, Char 49) ∷ (114, Char 50) ∷ (115, Char 51) ∷ (116, Char 52) ∷ (117, Char 53)
+    ∷ (118, Char 54) ∷ (119, Char 55) ∷ (120, Char 56) ∷ (121, Char 57) ∷ []
 
 -- the keys of ESC [ and a letter
 abbrev pub letter_keys : KeyRows

@@ -1,3 +1,4 @@
+pub mod CopiesLemmas
 pub mod FileLemmas
 pub mod ReadingLemmas
 pub mod RecentLemmas

@@ -1,5 +1,5 @@
 -- The newest lines, and lines that stand once.
-use Rattle.std.proofs.Common.{◌≡◌, ◌≢◌, ℕ, ◌+◌, ◌-◌, ◌<◌, Bool, true, List, [], ◌∷◌, ◌++◌, length, map, drop, refl, sym, ap, subst, true≢false, ◌∙◌, Some, String, string_bytes, arith, length-append}
+use Rattle.std.proofs.Common.{◌≡◌, ◌≢◌, ℕ, ◌+◌, ◌-◌, ◌<◌, Bool, true, List, [], ◌∷◌, ◌++◌, length, map, drop, refl, sym, ap, subst, true≢false, ◌∙◌, Some, String, string_bytes, arith, length-append, ⊎_elim}
 use Rattle.std.specs.Prelude.{not, Err, Ok, OnErr, OnOk, Result}
 use Rattle.std.specs.declared.alloc.Global.{Global}
 use Rattle.std.specs.List.{AllPairs, filter, items_where_true}
@@ -12,8 +12,10 @@ use Rattle.std.proofs.lemmas.List.Elements.{filter_passes}
 use Rattle.std.proofs.lemmas.List.Kept.{AllPairs-filter}
 use Rattle.std.proofs.lemmas.List.Quantifiers.{all_pairs_push}
 use Rattle.tw_line.specs.NearestMatch.{last_line}
-use Rattle.tw_history_parts.specs.HistoryFile.{AddsAll}
-use Rattle.tw_history_parts.specs.Recent.{AreUnique, RecentLines, StaysUnique, is_another, newest, older_lines, with_recent}
+use Rattle.tw_history_parts.specs.declared.written.WrittenHistory.{WrittenHistory}
+use Rattle.tw_history_parts.specs.HistoryFile.{AddsAll, lines_in}
+use Rattle.tw_history_parts.specs.Written.{IsOpened}
+use Rattle.tw_history_parts.specs.Recent.{AreUnique, RecentLines, StaysUnique, gives_recent, is_another, newest, older_lines}
 
 -- ---- the newest lines
 
@@ -51,7 +53,7 @@ others_kept line [] = refl
 others_kept line (entry ∷ entries) = let rest = others_kept line entries in grind (arith, nat_tests)
 
 -- the newest of lines that stand once, and of one that is added
-added_unique : (limit : ℕ) (lines : List (List ℕ)) (line : List ℕ) → AreUnique lines → AreUnique (newest limit (filter (is_another line) lines ++ line ∷ []))
+pub added_unique : (limit : ℕ) (lines : List (List ℕ)) (line : List ℕ) → AreUnique lines → AreUnique (newest limit (filter (is_another line) lines ++ line ∷ []))
 added_unique limit lines line unique =
     AllPairs-drop (λ older newer. older ≢ newer) _ _
     (all_pairs_push (λ older newer. older ≢ newer) _ line (AllPairs-filter (λ older newer. older ≢ newer) (is_another line) lines unique)
@@ -68,8 +70,15 @@ unique_after (Err fault) is_unique limit lines new line unique added refused is 
 
 -- ---- what stays as lines are added
 
-pub adds_keep : (lines : List (List ℕ)) (old new : RecentLines) → AddsAll (λ h line grown. grown ≡ with_recent h line) lines old new → (new.limit ≡ old.limit) × (new.is_unique ≡ old.is_unique)
+pub adds_keep : (lines : List (List ℕ)) (old new : RecentLines) → AddsAll gives_recent lines old new → (new.limit ≡ old.limit) × (new.is_unique ≡ old.is_unique)
 adds_keep [] old new adds = (ap (λ h. h.limit) adds, ap (λ h. h.is_unique) adds)
 adds_keep (line ∷ lines) old new (between, one, others) =
     let rest = adds_keep lines between new others in
     grind (arith, nat_tests, one)
+
+-- and where a file was opened
+pub opened_keeps : {W : Type 0} (lines : RecentLines) (it : WrittenHistory RecentLines W) → IsOpened lines it → (it.history.limit ≡ lines.limit) × (it.history.is_unique ≡ lines.is_unique)
+opened_keeps lines it opened =
+    ⊎_elim
+    (λ read. adds_keep (lines_in read.0) lines it.history read.1)
+    (λ unread. (ap (λ h. h.limit) unread.1, ap (λ h. h.is_unique) unread.1)) opened

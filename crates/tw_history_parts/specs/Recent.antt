@@ -36,6 +36,10 @@ newest limit lines = drop (length lines - limit) lines
 abbrev pub with_recent : RecentLines → List ℕ → RecentLines
 with_recent h line = if is_line line (last_line h.lines) then h else record h { lines = newest h.limit (older_lines h.is_unique line h.lines ++ line ∷ []) }
 
+-- what a history gives for a line that is added
+abbrev pub gives_recent : RecentLines → List ℕ → RecentLines → Type 0
+gives_recent history line grown = grown ≡ with_recent history line
+
 -- no line stands twice
 abbrev pub AreUnique : List (List ℕ) → Type 0
 AreUnique lines = AllPairs (λ older newer. older ≢ newer) lines

@@ -1,7 +1,7 @@
 //! How a line stands in a file, and reading the lines of a file into a history.
 
-ghost use Rattle.std.specs.Prelude.{◌≡◌, ◌++◌, ◌<◌, [], Contains, IfOk, IfSome, OnOk, None, Some, length, option_map, string_bytes, OnErr};
-ghost use Rattle.tw_history_parts.specs.HistoryFile.{IsCutAtFeed, escape_of, escaped_byte, if_text, line_of, unescaped, with_byte, written_line, is_cut_off, lines_in, lost_in, AddsAll, AddsSome};
+ghost use Rattle.std.specs.Prelude.{◌≡◌, ◌++◌, ◌<◌, [], Contains, IfOk, IfSome, OnOk, None, Some, length, map, option_map, string_bytes, OnErr};
+ghost use Rattle.tw_history_parts.specs.HistoryFile.{IsCutAtFeed, behind_first_feed, cut_end, escape_of, escaped_byte, if_text, line_of, unescaped, whole_part, with_byte, written_line, written_lines, is_cut_off, lines_in, lost_in, AddsAll, AddsSome};
 
 use std::alloc::{AllocError, Global};
 use std::fmt;
@@ -10,10 +10,10 @@ use tw_line::History;
 /// What of a file is not read.
 #[derive(Clone, Copy, Debug, PartialEq, Eq)]
 pub enum Unread {
-    /// The whole file: it is a folder, say, or may not be read.
+    /// The whole file: it is no regular file, as a folder, or may not be read.
     File,
-    /// So many lines: they are not UTF-8, have a backslash before another byte than a backslash or an `n`, or the last
-    /// one is cut off.
+    /// This number of lines: they are not UTF-8, have a backslash before another byte than a backslash or an `n`, or the
+    /// last one is cut off.
     Lines(usize),
 }
 
@@ -50,6 +50,9 @@ pub fn written_line(alloc: Global, line: &str) -> Result<Vec<u8>, AllocError>
     written.push(b'\n')?;
     Ok(written)
 }
+
+/// What is written behind a last line that is cut off: it ends the line, which is none then, however it was cut.
+pub const CUT_END: &[u8] = b"\\-\\\n";
 
 /// Splits bytes at the first line feed, if there is one.
 fn split_line(bytes: &[u8]) -> Option<(&[u8], &[u8])>
@@ -114,10 +117,13 @@ fn text_of(bytes: Vec<u8>) -> Option<String>
     }
 }
 
-/// Returns the line that a text of a file stands for, if it stands for one.
+/// Returns the line that a text of a file stands for, if it stands for one. An empty text stands for none.
 fn line_of(alloc: Global, text: &[u8]) -> Result<Option<String>, AllocError>
     ensures { IfOk result (λ line. option_map string_bytes line ≡ line_of text.now) }
 {
+    if text.is_empty() {
+        return Ok(None);
+    }
     Ok(unescape(alloc, text)?.and_then(text_of))
 }
 
@@ -128,25 +134,41 @@ pub fn is_cut_off(bytes: &[u8]) -> bool
     bytes.last().is_some_and(|last| *last != b'\n')
 }
 
-/// Adds the lines of a file to a history, the oldest first, and returns how many of its texts are no lines: the last
-/// one if no line feed ends it, those with a backslash before another byte than a backslash or an `n`, and those that
-/// are not UTF-8. They are passed over. If memory is lacking, the first lines may have been added.
-#[tactic(auto, using(crate::proofs::ReadingLemmas::passes_nothing, crate::proofs::ReadingLemmas::passes_all, crate::proofs::ReadingLemmas::passes_some, crate::proofs::ReadingLemmas::passes_text, crate::proofs::ReadingLemmas::passes_line, crate::proofs::ReadingLemmas::lost_cut, crate::proofs::ReadingLemmas::lost_none))]
-pub fn read_lines<L: History>(
-    alloc: Global,
-    bytes: &[u8],
-    history: &mut L,
-) -> Result<usize, AllocError>
-    ensures added { OnOk result (AddsAll L.add_gives (lines_in bytes.now) history.old history.new) }
-    ensures lost { IfOk result (λ lost. lost ≡ lost_in bytes.now) }
-    ensures refused { OnErr result
-        (AddsSome L.lines L.add_gives (lines_in bytes.now) history.old history.new) }
+/// Returns the part of the end of a file in which its lines are whole: what comes after the first line feed, or all of
+/// it if there is none.
+#[tactic(auto, using(crate::proofs::ReadingLemmas::part_cut, crate::proofs::ReadingLemmas::part_uncut))]
+pub fn whole_part(end: &[u8]) -> &[u8]
+    ensures { result.now ≡ whole_part end.now }
 {
+    match split_line(end) {
+        Some((_, rest)) => rest,
+        None => end,
+    }
+}
+
+/// What was read of a file.
+#[derive(Drop)]
+pub struct LinesRead {
+    /// The lines, the oldest first.
+    pub lines: Vec<String>,
+    /// How many texts can't be read: the last one if no line feed ends it, those with a backslash before another byte
+    /// than a backslash or an `n`, and those that are not UTF-8.
+    pub lost: usize,
+}
+
+/// Reads the lines of a file. An empty one is passed over.
+#[tactic(auto, using(crate::proofs::ReadingLemmas::lost_cut, crate::proofs::ReadingLemmas::lost_none, crate::proofs::ReadingLemmas::lines_cut, crate::proofs::ReadingLemmas::unended_line))]
+pub fn read_lines(alloc: Global, bytes: &[u8]) -> Result<LinesRead, AllocError>
+    ensures lines { IfOk result (λ read. map string_bytes read.lines.items ≡ lines_in bytes.now) }
+    ensures lost { IfOk result (λ read. read.lost ≡ lost_in bytes.now) }
+{
+    let mut lines = Vec::new(alloc);
     let mut rest = bytes;
     let mut lost = 0;
     while let Some((text, after)) = split_line(rest) {
         match line_of(alloc, text)? {
-            Some(line) => history.add(&line)?,
+            Some(line) => lines.push(line)?,
+            None if text.is_empty() => {}
             None => lost += 1,
         }
         rest = after;
@@ -154,5 +176,19 @@ pub fn read_lines<L: History>(
     if is_cut_off(bytes) {
         lost += 1;
     }
-    Ok(lost)
+    Ok(LinesRead { lines, lost })
+}
+
+/// Adds lines to a history, in their order. If memory is lacking, the first ones may have been added.
+#[tactic(auto, using(crate::proofs::ReadingLemmas::passes_nothing, crate::proofs::ReadingLemmas::passes_all))]
+pub fn add_lines<L: History>(history: &mut L, lines: &[String]) -> Result<(), AllocError>
+    ensures added { OnOk result (AddsAll L.add_gives (map string_bytes lines.now)
+        history.old history.new) }
+    ensures refused { OnErr result (AddsSome L.lines L.add_gives (map string_bytes lines.now)
+        history.old history.new) }
+{
+    for line in lines {
+        history.add(line)?;
+    }
+    Ok(())
 }

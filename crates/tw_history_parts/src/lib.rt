@@ -14,6 +14,7 @@
 //! ```
 #![tactic(auto)]
 
+mod disk;
 mod file;
 pub mod laws;
 mod recent;

@@ -1,15 +1,19 @@
 //! A history that keeps the newest lines.
 
 ghost use Rattle.std.specs.Cow.{IsBorrowedStr, cow_str_bytes};
-ghost use Rattle.std.specs.Prelude.{◌≡◌, ◌≤◌, ◌<◌, ◌==◌, ◌++◌, ◌∷◌, [], IfOk, IfSome, IsCharBoundary, IsOk, IsOkAnd, OnErr, OnOk, Some, false, if◌then◌else◌, length, option_map, slice_get, string_bytes, true};
+ghost use Rattle.std.specs.Prelude.{◌≡◌, ◌≤◌, ◌<◌, ◌==◌, ◌++◌, ◌∷◌, [], IfOk, IfSome, IsCharBoundary, IsOk, IsOkAnd, OnErr, OnOk, Some, false, if◌then◌else◌, length, map, option_map, slice_get, string_bytes, true};
+ghost use Rattle.std.specs.Set.{unique_keys};
+ghost use Rattle.std.specs.Str.{bytes_eq};
 ghost use Rattle.std.specs.VecDeque.{deque_capacity, deque_len};
 ghost use Rattle.tw_line.specs.HistoryAdditions.{is_line, match_view};
 ghost use Rattle.tw_line.specs.NearestMatch.{last_line, nearest_match};
-ghost use Rattle.tw_history_parts.specs.Recent.{lines_of_entries, newest, no_recent_lines, older_lines, with_recent};
+ghost use Rattle.tw_history_parts.specs.HistoryFile.{AddsAll, AddsSome, written_lines};
+ghost use Rattle.tw_history_parts.specs.Recent.{gives_recent, lines_of_entries, newest, no_recent_lines, older_lines, with_recent};
 
+use crate::file::{add_lines, written_line};
 use std::alloc::{AllocError, Global};
 use std::borrow::CowStr;
-use std::collections::VecDeque;
+use std::collections::{HashSet, VecDeque};
 use std::marker::Model;
 use tw_line::{
     History, HistoryIndex, LentLines, SearchDirection, SearchResult, SearchStyle, nearest_line,
@@ -77,6 +81,28 @@ fn push_recent(
     Ok(())
 }
 
+/// Returns copies of the newest of these lines, each where it comes last, and `limit` at most.
+fn newest_copies(
+    alloc: Global,
+    lines: &[&str],
+    limit: usize,
+) -> Result<VecDeque<String>, AllocError>
+    ensures { IfOk result (λ kept. lines_of_entries kept.items
+        ≡ newest limit (unique_keys bytes_eq (map (λ line. line.now) lines.now))) }
+{
+    let mut kept = VecDeque::new(alloc);
+    let mut seen = HashSet::new(alloc);
+    let mut at = lines.len();
+    while at > 0 {
+        at -= 1;
+        let line = lines[at];
+        if kept.len() < limit && seen.insert(line)? {
+            kept.push_front(String::from_str(alloc, line)?)?;
+        }
+    }
+    Ok(kept)
+}
+
 impl RecentHistory {
     /// Creates a history of no lines that keeps the newest `limit`, at least one. Takes no memory: each `add` takes it
     /// from `alloc`.
@@ -100,6 +126,64 @@ impl RecentHistory {
             is_unique: true,
             ..RecentHistory::new(alloc, limit)
         }
+    }
+
+    /// Adds lines in their order, as `add` does one after the other, but in time that does not grow with the limit if no
+    /// line is to stand twice. If memory is lacking, the first lines may have been added.
+    pub fn add_all(&mut self, lines: &[String]) -> Result<(), AllocError>
+        ensures added { OnOk result (AddsAll gives_recent (map string_bytes lines.now)
+            self.old self.new) }
+        ensures refused { OnErr result (AddsSome (λ history. history.lines) gives_recent
+            (map string_bytes lines.now) self.old self.new) }
+    {
+        if !self.is_unique {
+            return add_lines(self, lines);
+        }
+        let entries = self.entries_with(lines)?;
+        self.entries = entries;
+        Ok(())
+    }
+
+    /// Returns the entries once these lines are added, each line where it comes last.
+    fn entries_with(&self, lines: &[String]) -> Result<VecDeque<String>, AllocError>
+        ensures { IfOk result (λ entries. lines_of_entries entries.items
+            ≡ newest self.now.limit (unique_keys bytes_eq
+            (self.now.lines ++ map string_bytes lines.now))) }
+    {
+        let mut all = Vec::new(self.alloc);
+        for at in 0..self.entries.len() {
+            all.push(self.entries[at].as_str())?;
+        }
+        for line in lines {
+            all.push(line.as_str())?;
+        }
+        newest_copies(self.alloc, &all, self.limit)
+    }
+
+    /// Returns true if there are no lines.
+    pub(crate) fn is_empty(&self) -> bool
+        ensures { result ≡ (length self.now.lines == 0) }
+    {
+        self.entries.is_empty()
+    }
+
+    /// Returns how many lines are kept at most.
+    pub(crate) fn limit(&self) -> usize
+        ensures { result ≡ self.now.limit }
+    {
+        self.limit
+    }
+
+    /// Returns the lines as they are written, one after the other.
+    pub(crate) fn written(&self) -> Result<Vec<u8>, AllocError>
+        ensures { IfOk result (λ bytes. bytes.items ≡ written_lines self.now.lines) }
+    {
+        let mut bytes = Vec::new(self.alloc);
+        for at in 0..self.entries.len() {
+            let line = written_line(self.alloc, &self.entries[at])?;
+            bytes.extend_from_slice(&line)?;
+        }
+        Ok(bytes)
     }
 
     fn ends_with(&self, line: &str) -> bool
@@ -126,7 +210,7 @@ impl LentLines for RecentHistory {
 impl History for RecentHistory {
     ghost lines = { λ h. h.lines };
 
-    ghost add_gives = { λ history line grown. grown ≡ with_recent history line };
+    ghost add_gives = { gives_recent };
 
     /// Lends the line at `idx`. Takes no memory.
     fn get(&self, _alloc: Global, idx: HistoryIndex) -> Result<Option<CowStr<'_>>, AllocError>

@@ -1,15 +1,16 @@
 //! A history whose lines are written too.
 
-ghost use Rattle.std.specs.Prelude.{◌≡◌, ◌∷◌, [], IfOk, None, OnErr, OnOk, Some, false, is_none, true};
+ghost use Rattle.std.specs.Prelude.{◌≡◌, IfOk, None, OnErr, OnOk, Some, false, is_none, true};
 ghost use Rattle.tw_line.specs.NearestMatch.{last_line};
-ghost use Rattle.tw_history_parts.specs.HistoryFile.{is_cut_off, lines_in, unread_lines, AddsAll};
-ghost use Rattle.tw_history_parts.specs.Written.{IsPut, Writes};
+ghost use Rattle.tw_history_parts.specs.HistoryFile.{cut_end, is_cut_off, lines_in, unread_lines, unread_of, AddsAll};
+ghost use Rattle.tw_history_parts.specs.Written.{IsOpened, IsPut, Writes};
 
-use crate::file::{Unread, is_cut_off, read_lines, written_line};
+use crate::disk::{self, OpenFile};
+use crate::file::{CUT_END, Unread, add_lines, is_cut_off, read_lines, whole_part, written_line};
 use crate::recent::RecentHistory;
 use std::alloc::{AllocError, Global};
 use std::borrow::CowStr;
-use std::fs::{self, File, OpenOptions};
+use std::fs::File;
 use std::io::{ErrorKind, Write};
 use tw_line::{History, HistoryIndex, LentLines, SearchDirection, SearchResult, SearchStyle};
 
@@ -48,8 +49,8 @@ impl<L: History, W: Write + Drop> WrittenHistory<L, W> {
     }
 
     /// Adds the lines that were written before to a history, the oldest first, and writes its lines after them from now
-    /// on. If the last one was cut off, a line feed is written at once, so that the next one is a line by itself.
-    /// Having no writer is a failure.
+    /// on. If the last one was cut off, it is ended at once: it is no line then in later sessions either. Having no writer
+    /// is a failure.
     pub fn resume(
         alloc: Global,
         history: L,
@@ -63,22 +64,36 @@ impl<L: History, W: Write + Drop> WrittenHistory<L, W> {
         ensures unread { IfOk result (λ it. it.unread ≡ unread_lines bytes.now) }
         ensures failed { IfOk result (λ it. it.has_failed ≡ is_none it.writer) }
         ensures ended { is_cut_off bytes.now ≡ true → IfOk result (λ it.
-            IsPut W.contents (10 ∷ []) (is_none writer) writer it.has_failed it.writer) }
+            IsPut W.contents cut_end (is_none writer) writer it.has_failed it.writer) }
         ensures whole { is_cut_off bytes.now ≡ false → IfOk result (λ it.
             (it.writer ≡ writer) × (it.has_failed ≡ is_none writer)) }
     {
         let mut history = history;
-        let lost = read_lines(alloc, bytes, &mut history)?;
-        let mut resumed = WrittenHistory {
+        let read = read_lines(alloc, bytes)?;
+        add_lines(&mut history, &read.lines)?;
+        Ok(WrittenHistory::behind(alloc, history, read.lost, is_cut_off(bytes), writer))
+    }
+
+    /// Creates a history whose lines are written behind others, of which `lost` can't be read, and the last one may be
+    /// cut off.
+    fn behind(alloc: Global, history: L, lost: usize, is_cut_off: bool, writer: Option<W>) -> Self
+        ensures history { result.history ≡ history }
+        ensures unread { result.unread ≡ unread_of lost }
+        ensures failed { result.has_failed ≡ is_none result.writer }
+        ensures ended { is_cut_off ≡ true → IsPut W.contents cut_end (is_none writer) writer
+            result.has_failed result.writer }
+        ensures whole { is_cut_off ≡ false → result.writer ≡ writer }
+    {
+        let mut written = WrittenHistory {
             has_failed: writer.is_none(),
             writer,
             unread: (lost > 0).then_some(Unread::Lines(lost)),
             ..WrittenHistory::in_memory(alloc, history)
         };
-        if is_cut_off(bytes) {
-            resumed.put(b"\n");
+        if is_cut_off {
+            written.put(CUT_END);
         }
-        Ok(resumed)
+        written
     }
 
     /// Returns what of the lines that were written before could not be read. It is written there still.
@@ -118,29 +133,64 @@ impl<L: History, W: Write + Drop> WrittenHistory<L, W> {
 }
 
 impl WrittenHistory<RecentHistory, File> {
-    /// Opens the history in a file, whose lines are added to those in memory. The file is made if there is none, and is
-    /// never cut: each line that is added is written at its end.
+    /// Opens the history in a file, whose lines are added to those in memory. The file is made if there is none, for its
+    /// owner only; each line that is added is written at its end. At most 1,024 bytes for each line that `lines` keeps
+    /// are read, the last ones of the file.
     ///
-    /// A file that can't be read is not written either. `unread` returns what was not read, and `take_failure` whether
-    /// lines can't be written: they are kept in memory then.
+    /// A file that is several times as long as that, or has several times as many lines, is written anew with the lines
+    /// that are kept, if `lines` is empty, and if no other session has the file open: a new file takes its place.
+    ///
+    /// What is no regular file, or can't be read, is not written either. `unread` returns what was not read, and
+    /// `take_failure` whether lines can't be written: they are kept in memory then.
     pub fn open(rt: HostRuntime, path: &str, lines: RecentHistory) -> Result<Self, AllocError>
+        ensures opened { IfOk result (IsOpened lines) }
         ensures kept { IfOk result (λ it. (it.history.limit ≡ lines.limit)
             × (it.history.is_unique ≡ lines.is_unique)) }
         ensures failed { IfOk result (λ it. it.has_failed ≡ is_none it.writer) }
     {
-        let bytes = match fs::read(&rt, path) {
-            Ok(bytes) => bytes,
-            Err(fault) if fault.kind() == ErrorKind::NotFound => Vec::new(rt.alloc()),
-            Err(_) => {
-                return Ok(WrittenHistory {
-                    has_failed: true,
-                    unread: Some(Unread::File),
-                    ..WrittenHistory::in_memory(rt.alloc(), lines)
-                });
+        let alloc = rt.alloc();
+        match disk::open(rt, path, lines.limit(), lines.is_empty()) {
+            Ok(opened) => WrittenHistory::take_up(rt, path, lines, opened),
+            Err(fault) if fault.kind() == ErrorKind::NotFound => {
+                WrittenHistory::resume(alloc, lines, b"", None)
             }
+            Err(_) => Ok(WrittenHistory {
+                has_failed: true,
+                unread: Some(Unread::File),
+                ..WrittenHistory::in_memory(alloc, lines)
+            }),
+        }
+    }
+
+    /// Adds the lines of a file that is open to a history, and writes it anew if it is long.
+    fn take_up(
+        rt: HostRuntime,
+        path: &str,
+        lines: RecentHistory,
+        opened: OpenFile,
+    ) -> Result<Self, AllocError>
+        ensures opened { IfOk result (IsOpened lines) }
+        ensures failed { IfOk result (λ it. it.has_failed ≡ is_none it.writer) }
+    {
+        let alloc = rt.alloc();
+        let mut history = lines;
+        let end = if opened.is_part {
+            whole_part(&opened.end)
+        } else {
+            &opened.end
         };
-        let file = OpenOptions::new().append(true).create(true).open(&rt, path);
-        WrittenHistory::resume(rt.alloc(), lines, &bytes, file.ok())
+        let read = read_lines(alloc, end)?;
+        history.add_all(&read.lines)?;
+        let mut file = opened.file;
+        let mut is_cut_off = is_cut_off(end);
+        if opened.is_to_shrink
+            && let Some(old) = file
+        {
+            let (kept, is_new) = disk::write_anew(rt, path, old, opened.len, &history.written()?);
+            file = kept;
+            is_cut_off = is_cut_off && !is_new;
+        }
+        Ok(WrittenHistory::behind(alloc, history, read.lost, is_cut_off, file))
     }
 }
 

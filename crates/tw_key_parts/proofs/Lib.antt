@@ -1,3 +1,4 @@
 pub mod StepLemmas
 pub mod RingLemmas
 pub mod UndoLemmas
+pub mod EditedLineLemmas

@@ -12,3 +12,4 @@ pub mod Recalled
 pub mod LastWords
 pub mod PrefixSearch
 pub mod RowKeys
+pub mod EditedLines

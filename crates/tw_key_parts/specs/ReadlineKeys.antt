@@ -10,6 +10,8 @@ use Rattle.tw_line.specs.declared.movements.Movement.TheVariants as movement
 use Rattle.tw_host.specs.ActionView.{ActionView, Kill, KillAndMove, Move}
 use Rattle.tw_key_parts.specs.KeyRules.{Asked, Edited, in_place}
 use Rattle.tw_key_parts.specs.Keys.{is_key, row_with_key}
+use Rattle.tw_key_parts.specs.RowKeys.{killed_to_edge}
+use Rattle.tw_key_parts.specs.declared.steps.Way.TheVariants.{Back}
 use Rattle.tw_host.specs.KeyTable.{key_press, key_table, letter, looked_up}
 
 -- the keys with an action of their own
@@ -22,11 +24,19 @@ readline_table =
     ∷ (key_press alt Backspace, Kill (movement.BackwardWord 1))
     ∷ []
 
--- the action of an event in a line: Ctrl-D deletes, and on an empty line is left to the key table
-abbrev pub readline_key : EventView → Cut → Option ActionView
-readline_key event cut =
+-- in each row but the first Ctrl-U kills to the start of the row
+abbrev pub killed_in_row : EventView → Cut → Option ActionView
+killed_in_row event cut = if is_key (key_press ctrl (letter (codes "U"))) event then killed_to_edge Back cut else None
+
+-- Ctrl-D deletes, and on an empty line is left to the key table
+abbrev pub deleted_at_cursor : EventView → Cut → Option ActionView
+deleted_at_cursor event cut =
     let deletes = is_key (key_press ctrl (letter (codes "D"))) event && not (length cut.line == 0) in
-    option_or (row_with_key readline_table event) (if deletes then Some (KillAndMove (movement.ForwardChar 1) movement.None) else None)
+    if deletes then Some (KillAndMove (movement.ForwardChar 1) movement.None) else None
+
+-- the action of an event in a line
+abbrev pub readline_key : EventView → Cut → Option ActionView
+readline_key event cut = option_or (killed_in_row event cut) (option_or (row_with_key readline_table event) (deleted_at_cursor event cut))
 
 -- the edit of an event: the line stays as it is
 abbrev pub readline_edit : Asked → Option (Edited (Unit {0}))

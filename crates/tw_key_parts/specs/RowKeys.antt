@@ -13,7 +13,7 @@ use Rattle.tw_line.specs.Clusters.{is_cluster_boundary}
 use Rattle.tw_line.specs.Cut.{Cut, cut_at}
 use Rattle.tw_line.specs.Movements.{destination}
 use Rattle.tw_line.specs.declared.movements.Movement.TheVariants as movement
-use Rattle.tw_host.specs.ActionView.{ActionView, InsertChar, InsertText, KillAndMove, Move}
+use Rattle.tw_host.specs.ActionView.{ActionView, InsertChar, InsertText, Kill, KillAndMove, Move}
 use Rattle.tw_host.specs.KeyTable.{key_press, letter}
 use Rattle.tw_hosts.specs.Words.{end_row}
 use Rattle.tw_key_parts.specs.ClusterSteps.{cluster_steps}
@@ -100,10 +100,18 @@ place_beside way column cut =
 abbrev pub move_to : Way → Option ℕ → Cut → Option ActionView
 move_to way to cut = option_map (λ to. Move (cluster_steps way (steps_to way to cut))) to
 
--- in each row but the last the rest of the row is killed, and at its end the line feed
+-- the kill of `count` clusters that way
+abbrev pub cluster_kill : Way → ℕ → ActionView
+cluster_kill Back count = Kill (movement.BackwardChar count)
+cluster_kill Ahead count = KillAndMove (movement.ForwardChar count) movement.None
+
+-- the row is killed to that edge, and at the edge the line feed there
+abbrev pub killed_to_edge : Way → Cut → Option ActionView
+killed_to_edge way cut = option_map (λ edge. cluster_kill way (max (steps_to way edge cut) 1)) (edge_of_row way cut)
+
+-- the rest of the row, in each row but the last
 abbrev pub killed_to_end : Cut → Option ActionView
-killed_to_end cut =
-    option_map (λ end. KillAndMove (movement.ForwardChar (max (steps_to Ahead end cut) 1)) movement.None) (edge_of_row Ahead cut)
+killed_to_end cut = killed_to_edge Ahead cut
 
 -- the column that a run of Up and Down keeps, or else the number of steps from the cursor back to the start of its row
 abbrev pub goal_column : Option ℕ → Cut → ℕ

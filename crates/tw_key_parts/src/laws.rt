@@ -1,12 +1,14 @@
 //! What follows from the definitions: each function does nothing, and its contract is the law.
 
 ghost use Rattle.tw_input.specs.Equality.{ComparesValues};
+ghost use Rattle.tw_key_parts.specs.EditedLines.{LineIsKept, StepBackIsUndone};
 ghost use Rattle.tw_key_parts.specs.Pairs.{OrderIsFree};
 ghost use Rattle.tw_key_parts.specs.ReadlineKeys.{RowsAreDistinct, RowsAreNew};
 ghost use Rattle.tw_key_parts.specs.RowKeys.{OneRowIsLeft, RowKillIsKept, StepsLeadThere};
 ghost use Rattle.tw_key_parts.specs.Ring.{KillIsLatest, KillsKeepLine, YankGivesBack};
 ghost use Rattle.tw_key_parts.specs.Undo.{UndoKeepsOldest, UndosGiveOldest};
 
+use crate::edited_lines::WalkKey;
 use crate::part::KeyPart;
 use crate::ring::Latest;
 use crate::row_keys::RowKey;
@@ -16,6 +18,7 @@ use crate::word_keys::WordEdit;
 pub fn equality()
     ensures latest { ComparesValues ⟦<Latest as PartialEq>⟧.eq }
     ensures rows { ComparesValues ⟦<RowKey as PartialEq>⟧.eq }
+    ensures walks { ComparesValues ⟦<WalkKey as PartialEq>⟧.eq }
     ensures edits { ComparesValues ⟦<WordEdit as PartialEq>⟧.eq }
 {}
 
@@ -53,4 +56,11 @@ pub fn rows()
     ensures one { OneRowIsLeft }
     ensures steps { StepsLeadThere }
     ensures kill { RowKillIsKept }
+{}
+
+/// A line that a walk leaves comes back as it was left, and all others stay. So a step to the line before, and one
+/// back, show that line, whatever was made of the line before.
+pub fn walks()
+    ensures kept { LineIsKept }
+    ensures undone { StepBackIsUndone }
 {}

@@ -7,13 +7,15 @@
 //!
 //! ```
 //! let words = (Keys(LetterWords), (Keys(ReadlineKeys), Keys(WordKeys)));
-//! let history = (LastWords::new(), PrefixSearch::new());
+//! let recalls = (PrefixSearch::new(), EditedLines::new(alloc));
+//! let history = (LastWords::new(), recalls);
 //! let others = (words, (history, KillRing::new(alloc)));
 //! (UndoSteps::new(alloc), others)
 //! ```
 #![tactic(auto)]
 
 mod edit;
+mod edited_lines;
 mod keys;
 mod last_words;
 pub mod laws;
@@ -33,6 +35,7 @@ mod word_edits;
 mod word_keys;
 
 pub use edit::{Edit, EditResult};
+pub use edited_lines::EditedLines;
 pub use keys::is_key;
 pub use last_words::LastWords;
 pub use letter_keys::LetterWords;

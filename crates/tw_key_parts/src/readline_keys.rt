@@ -1,27 +1,46 @@
 //! Keys of readline that are not in the key table.
 
-ghost use Rattle.std.specs.Prelude.{◌≡◌, option_map};
-ghost use Rattle.tw_host.specs.ActionView.{action_view};
+ghost use Rattle.std.specs.Prelude.{◌≡◌, IfOk, option_map, unwrap_or};
+ghost use Rattle.tw_host.specs.ActionView.{Kill, action_view};
 ghost use Rattle.tw_input.specs.EventView.{event_view};
 ghost use Rattle.tw_key_parts.specs.ReadlineKeys.{readline_key};
+ghost use Rattle.tw_key_parts.specs.RowKeys.{killed_to_edge};
+ghost use Rattle.tw_key_parts.specs.declared.steps.Way.TheVariants.{Back};
+ghost use Rattle.tw_line.specs.declared.movements.Movement.TheVariants.{StartOfLine};
 
 use crate::edit::{EditResult, in_place};
 use crate::part::Asked;
 use crate::plain_keys::PlainKeys;
-use std::alloc::Global;
+use crate::row_keys::killed_to_edge;
+use crate::steps::Way;
+use std::alloc::{AllocError, Global};
 use tw_host::Action;
 use tw_input::{InputEvent, KeyCode, Modifiers};
 use tw_line::{History, LineEditBuffer, Movement};
 
+/// Returns the action of Ctrl-U in a line.
+fn killed_before(alloc: Global, editor: &LineEditBuffer) -> Result<Action, AllocError>
+    ensures { IfOk result (λ action. action_view action
+        ≡ unwrap_or (killed_to_edge Back editor.now) (Kill StartOfLine)) }
+{
+    let in_row = killed_to_edge(alloc, Way::Back, editor)?;
+    Ok(in_row.unwrap_or(Action::Kill(Movement::StartOfLine)))
+}
+
 /// Returns the action of an event in a line, if it is a key of readline.
-fn readline_key(event: &InputEvent, editor: &LineEditBuffer) -> Option<Action>
-    ensures { option_map action_view result ≡ readline_key (event_view event.now) editor.now }
+fn readline_key(
+    alloc: Global,
+    event: &InputEvent,
+    editor: &LineEditBuffer,
+) -> Result<Option<Action>, AllocError>
+    ensures { IfOk result (λ action. option_map action_view action
+        ≡ readline_key (event_view event.now) editor.now) }
 {
     let InputEvent::Key(press) = event else {
-        return None;
+        return Ok(None);
     };
-    match (press.modifiers, press.key) {
-        (Modifiers::CTRL, KeyCode::Char('U')) => Some(Action::Kill(Movement::StartOfLine)),
+    Ok(match (press.modifiers, press.key) {
+        (Modifiers::CTRL, KeyCode::Char('U')) => Some(killed_before(alloc, editor)?),
         (Modifiers::CTRL, KeyCode::Char('D')) if !editor.get_line().is_empty() => {
             Some(Action::KillAndMove(Movement::ForwardChar(1), Movement::None))
         }
@@ -32,12 +51,12 @@ fn readline_key(event: &InputEvent, editor: &LineEditBuffer) -> Option<Action>
         }
         (Modifiers::ALT, KeyCode::Backspace) => Some(Action::Kill(Movement::BackwardWord(1))),
         _ => None,
-    }
+    })
 }
 
-/// Keys of readline: Ctrl-U kills to the start of the line, Alt-d the next word and Alt-Backspace the previous one;
-/// Ctrl-Left and Ctrl-Right move by words; Ctrl-D deletes a character, and on an empty line ends the input. Words end
-/// at whitespace.
+/// Keys of readline: Ctrl-U kills to the start of the line, or of its row if it has several, and at the start of a row
+/// the line feed before it; Alt-d kills the next word and Alt-Backspace the previous one; Ctrl-Left and Ctrl-Right move
+/// by words; Ctrl-D deletes a character, and on an empty line ends the input. Words end at whitespace.
 #[derive(Debug, Drop)]
 pub struct ReadlineKeys;
 
@@ -46,7 +65,7 @@ impl PlainKeys for ReadlineKeys {
 
     ghost edits = { readline_edit };
 
-    fn edit<L: History>(&self, _alloc: Global, asked: &Asked<'_, L>) -> EditResult<()> {
-        Ok(in_place(readline_key(asked.event, asked.line), ()))
+    fn edit<L: History>(&self, alloc: Global, asked: &Asked<'_, L>) -> EditResult<()> {
+        Ok(in_place(readline_key(alloc, asked.event, asked.line)?, ()))
     }
 }

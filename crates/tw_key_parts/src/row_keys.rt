@@ -5,7 +5,7 @@ ghost use Rattle.tw_host.specs.ActionView.{action_view};
 ghost use Rattle.tw_input.specs.EventView.{event_view};
 ghost use Rattle.tw_key_parts.specs.EditView.{edit_view};
 ghost use Rattle.tw_key_parts.specs.declared.steps.Way.TheVariants as Way;
-ghost use Rattle.tw_key_parts.specs.RowKeys.{edit_by, edit_of_pattern, goal_column, has_rows, in_one_row, killed_to_end, move_to, place_beside, edge_of_row, row_end, row_key, row_start, steps_to};
+ghost use Rattle.tw_key_parts.specs.RowKeys.{edit_by, edit_of_pattern, goal_column, has_rows, in_one_row, killed_to_edge, move_to, place_beside, edge_of_row, row_end, row_key, row_start, steps_to};
 
 use crate::edit::{EditResult, in_place};
 use crate::part::{Asked, KeyPart, Step};
@@ -158,16 +158,23 @@ fn move_to(
     Ok(Some(Action::Move(cluster_steps(way, count))))
 }
 
-/// Returns the kill of the rest of the row, or at its end of the line feed, unless the row is the last.
-fn killed_to_end(alloc: Global, editor: &LineEditBuffer) -> Result<Option<Action>, AllocError>
+/// Returns the kill of the row to its start or end, or at that edge of the line feed there, if there is one.
+pub(crate) fn killed_to_edge(
+    alloc: Global,
+    way: Way,
+    editor: &LineEditBuffer,
+) -> Result<Option<Action>, AllocError>
     ensures { IfOk result (λ action. option_map action_view action
-        ≡ killed_to_end editor.now) }
+        ≡ killed_to_edge way editor.now) }
 {
-    let Some(end) = edge_of_row(Way::Ahead, editor) else {
+    let Some(edge) = edge_of_row(way, editor) else {
         return Ok(None);
     };
-    let count = steps_to(alloc, Way::Ahead, end, editor)?.max(1);
-    Ok(Some(Action::KillAndMove(Movement::ForwardChar(count), Movement::None)))
+    let count = steps_to(alloc, way, edge, editor)?.max(1);
+    Ok(Some(match way {
+        Way::Back => Action::Kill(Movement::BackwardChar(count)),
+        Way::Ahead => Action::KillAndMove(Movement::ForwardChar(count), Movement::None),
+    }))
 }
 
 /// Returns true if a line feed stands in a text.
@@ -253,7 +260,7 @@ impl RowKeys {
             RowKey::ToEdge(way) => {
                 Ok(in_place(move_to(alloc, way, edge_of_row(way, line), line)?, None))
             }
-            RowKey::KillToEnd => Ok(in_place(killed_to_end(alloc, line)?, None)),
+            RowKey::KillToEnd => Ok(in_place(killed_to_edge(alloc, Way::Ahead, line)?, None)),
         }
     }
 }

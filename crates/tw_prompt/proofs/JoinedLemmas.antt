@@ -1,17 +1,16 @@
 -- What is taken of a source and of what is held back, call after call.
 use Rattle.std.proofs.Common.{◌≡◌, ◌==◌, ◌≤◌, ◌<◌, ◌&&◌, ℕ, List, [], ◌∷◌, ◌++◌, Bool, true, false, Some, None, length, map, refl, sym, ap, ◌∙◌, append_assoc, append-nil, arith, eqb-true, if◌then◌else◌}
-use Rattle.std.specs.Prelude.{encode_utf8, leb}
+use Rattle.std.specs.Prelude.{encode_utf8, encode_utf8_all}
 use Rattle.std.specs.List.{list_all}
-use Rattle.std.proofs.lemmas.Bool.{leb-true}
-use Rattle.std.proofs.lemmas.List.{map-append}
-use Rattle.std.proofs.lemmas.Str.Ascii.{encode_ascii}
+use Rattle.std.proofs.lemmas.List.{length-append, map-append}
+use Rattle.std.proofs.lemmas.Str.{encodes-append}
 use Rattle.tw_input.specs.EventView.{EventView, Key, Resized, Paste, Wake}
 use Rattle.tw_input.specs.declared.key.KeyCode.{KeyCode}
 use Rattle.tw_input.specs.declared.key.KeyCode.TheVariants.{Char, Backspace, Tab, Enter, Escape, Insert, Delete, Home, End, PageUp, PageDown, LeftArrow, RightArrow, UpArrow, DownArrow, ApplicationLeftArrow, ApplicationRightArrow, ApplicationUpArrow, ApplicationDownArrow, Function}
-use Rattle.tw_surface.specs.Characters.{is_printable}
+use Rattle.tw_surface.proofs.LoneCharacters.{some_bytes}
 use Rattle.tw_lineedit.proofs.UseLemmas.{both_uses}
 use Rattle.tw_device.specs.Calls.{all_events}
-use Rattle.tw_prompt.specs.Joined.{AreRight, IsRight, Moves, Piece, Pieced, Run, Single, printable_code, printable_in, run_event, told_in, told_in_all, piece_events, typed_in_all, key_of_character}
+use Rattle.tw_prompt.specs.Joined.{AreRight, IsRight, Moves, Piece, Pieced, Run, Single, character_in, character_of, is_joining, run_event, told_in, told_in_all, piece_events, typed_in_all, key_of_character}
 
 some-same : {X : Type 0} {x y : X} → Some x ≡ Some y → x ≡ y
 some-same e = cc
@@ -64,17 +63,17 @@ module _ {S : Type 0} (told : S → List EventView) (Follows : S → S → List 
             ∙ sym (append_assoc taken more l),
       )
 
--- the event that types a printable character is its key
-code_is : (key : KeyCode) (bits c : ℕ) (plain : Bool) → (bits == 0) ≡ plain → (if plain then printable_code key else None) ≡ Some c
-    → (Key (record { key = key; modifiers = record { 0 = bits } }) ≡ key_of_character c) × (is_printable c ≡ true)
+-- the event that types a character is its key
+code_is : (key : KeyCode) (bits c : ℕ) (plain : Bool) → (bits == 0) ≡ plain → (if plain then character_of key else None) ≡ Some c
+    → (Key (record { key = key; modifiers = record { 0 = bits } }) ≡ key_of_character c) × (is_joining c ≡ true)
 code_is key bits c false other e = cc
-code_is (Char d) bits c true same e = by (is_printable d) refl e
+code_is (Char d) bits c true same e = by (is_joining d) refl e
   where
-    by : (b : Bool) → is_printable d ≡ b → (if b then Some d else None) ≡ Some c → (Key (record { key = Char d; modifiers = record { 0 = bits } }) ≡ key_of_character c) × (is_printable c ≡ true)
+    by : (b : Bool) → is_joining d ≡ b → (if b then Some d else None) ≡ Some c → (Key (record { key = Char d; modifiers = record { 0 = bits } }) ≡ key_of_character c) × (is_joining c ≡ true)
     by true printable e =
         let none : bits ≡ 0 = eqb-true bits 0 same in
         let this : d ≡ c = some-same e in
-        (ap (λ n. Key (record { key = Char d; modifiers = record { 0 = n } })) none ∙ ap key_of_character this, ap is_printable (sym this) ∙ printable)
+        (ap (λ n. Key (record { key = Char d; modifiers = record { 0 = n } })) none ∙ ap key_of_character this, ap is_joining (sym this) ∙ printable)
     by false other e = cc
 code_is Backspace bits c true same e = cc
 code_is Tab bits c true same e = cc
@@ -96,52 +95,51 @@ code_is ApplicationUpArrow bits c true same e = cc
 code_is ApplicationDownArrow bits c true same e = cc
 code_is (Function n) bits c true same e = cc
 
-pub printable_is : (event : EventView) (c : ℕ) → printable_in event ≡ Some c → (event ≡ key_of_character c) × (is_printable c ≡ true)
-printable_is (Key key) c e = code_is key.key key.modifiers.0 c (key.modifiers.0 == 0) refl e
-printable_is (Resized cols rows) c e = cc
-printable_is (Paste text) c e = cc
-printable_is Wake c e = cc
+pub character_is : (event : EventView) (c : ℕ) → character_in event ≡ Some c → (event ≡ key_of_character c) × (is_joining c ≡ true)
+character_is (Key key) c e = code_is key.key key.modifiers.0 c (key.modifiers.0 == 0) refl e
+character_is (Resized cols rows) c e = cc
+character_is (Paste text) c e = cc
+character_is Wake c e = cc
 
--- a printable character is its own byte
-pub printable_byte : (c : ℕ) → is_printable c ≡ true → encode_utf8 c ≡ c ∷ []
-printable_byte c e = let low = leb-true c 126 (second (leb 32 c) (leb c 126) e) in encode_ascii c (omega (arith, low))
-  where
-    second : (a b : Bool) → (a && b) ≡ true → b ≡ true
-    second true b e = e
-    second false b e = cc
+-- the bytes of one character more
+pub bytes_more : (text : List ℕ) (c : ℕ) → encode_utf8_all text ++ encode_utf8 c ≡ encode_utf8_all (text ++ c ∷ [])
+bytes_more text c = ap (λ bytes. encode_utf8_all text ++ bytes) (sym (append-nil (encode_utf8 c))) ∙ sym (encodes-append text (c ∷ []))
 
 -- one character more of a run
 pub keys_more : (text : List ℕ) (c : ℕ) → map key_of_character (text ++ c ∷ []) ≡ map key_of_character text ++ key_of_character c ∷ []
 keys_more text c = map-append key_of_character text (c ∷ [])
 
-pub printable_more : (text : List ℕ) (c : ℕ) → list_all is_printable text ≡ true → is_printable c ≡ true → list_all is_printable (text ++ c ∷ []) ≡ true
-printable_more [] c all one = ap (λ b. b && true) one
-printable_more (d ∷ text) c all one =
-    let (first, rest) = both (is_printable d) (list_all is_printable text) all in
-    ap (λ b. b && list_all is_printable (text ++ c ∷ [])) first ∙ printable_more text c rest one
+pub text_more : (text : List ℕ) (c : ℕ) → list_all is_joining text ≡ true → is_joining c ≡ true → list_all is_joining (text ++ c ∷ []) ≡ true
+text_more [] c all one = ap (λ b. b && true) one
+text_more (d ∷ text) c all one =
+    let (first, rest) = both (is_joining d) (list_all is_joining text) all in
+    ap (λ b. b && list_all is_joining (text ++ c ∷ [])) first ∙ text_more text c rest one
   where
     both : (a b : Bool) → (a && b) ≡ true → (a ≡ true) × (b ≡ true)
     both true b e = (refl, e)
     both false b e = cc
 
--- a run as an event
-pub run_is : (first : ℕ) (more : List ℕ) → 1 < length (first ∷ more) → Paste (first ∷ more) ≡ run_event first more
-run_is first [] long = absurd (omega (arith, long))
-run_is first (c ∷ more) long = refl
+-- a run as an event: the bytes of its first character, and those of all, tell whether there are others
+pub run_is : (first : ℕ) (more lone run : List ℕ) → lone ≡ encode_utf8 first → run ≡ lone ++ encode_utf8_all more → length lone < length run → Paste run ≡ run_event first more
+run_is first [] lone run one all long = absurd (omega (arith, long, ap length (all ∙ append-nil lone)))
+run_is first (c ∷ more) lone run one all long = ap Paste (all ∙ ap (λ bytes. bytes ++ encode_utf8_all (c ∷ more)) one)
 
-pub one_is : (first : ℕ) (more : List ℕ) → length (first ∷ more) ≤ 1 → key_of_character first ≡ run_event first more
-one_is first [] short = refl
-one_is first (c ∷ more) short = absurd (omega (arith, short))
+pub one_is : (first : ℕ) (more lone run : List ℕ) → run ≡ lone ++ encode_utf8_all more → length run ≤ length lone → key_of_character first ≡ run_event first more
+one_is first [] lone run all short = refl
+one_is first (c ∷ more) lone run all short =
+    let both = ap length all ∙ length-append lone (encode_utf8_all (c ∷ more)) in
+    let some = length-append (encode_utf8 c) (encode_utf8_all more) in
+    absurd (omega (arith, short, both, some, some_bytes c))
 
 -- a run as a piece
 pub run_piece : ℕ → List ℕ → Piece
 run_piece first [] = Single (key_of_character first)
 run_piece first (c ∷ more) = Run (first ∷ c ∷ more)
 
-pub run_right : (first : ℕ) (more : List ℕ) → is_printable first ≡ true → list_all is_printable more ≡ true → IsRight true (run_piece first more)
+pub run_right : (first : ℕ) (more : List ℕ) → is_joining first ≡ true → list_all is_joining more ≡ true → IsRight true (run_piece first more)
 unfolding run_piece
 run_right first [] one all = tt
-run_right first (c ∷ more) one all = (refl, omega arith, ap (λ b. b && list_all is_printable (c ∷ more)) one ∙ all)
+run_right first (c ∷ more) one all = (refl, omega arith, ap (λ b. b && list_all is_joining (c ∷ more)) one ∙ all)
 
 pub run_typed : (first : ℕ) (more : List ℕ) → piece_events (run_piece first more) ≡ map key_of_character (first ∷ more)
 unfolding run_piece

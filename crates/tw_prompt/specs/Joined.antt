@@ -1,15 +1,14 @@
 -- The events of a prompt: characters that are at hand at once come as one pasted text.
-use Rattle.std.specs.Prelude.{◌≡◌, ℕ, ◌≤◌, ◌==◌, Bool, true, false, List, [], ◌∷◌, ◌++◌, length, map, Option, Some, None, ⊤, if◌then◌else◌}
+use Rattle.std.specs.Prelude.{◌≡◌, ℕ, ◌≤◌, ◌==◌, Bool, true, false, List, [], ◌∷◌, ◌++◌, encode_utf8_all, length, map, not, Option, Some, None, ⊤, if◌then◌else◌}
+use Rattle.std.specs.Char.{is_control}
 use Rattle.std.specs.List.{flat_map, list_all}
 use Rattle.tw_input.specs.declared.key.KeyCode.{KeyCode}
 use Rattle.tw_input.specs.declared.key.KeyCode.TheVariants.{Char}
 use Rattle.tw_input.specs.EventView.{EventView, event_view, Key, Resized, Paste, Wake}
 use Rattle.tw_input.specs.Modifiers.{modifier_bits, modifiers_of, none}
-use Rattle.tw_surface.specs.Characters.{is_printable}
 use Rattle.tw_terminal.specs.declared.terminal.ScreenSize.{ScreenSize}
 use Rattle.tw_device.specs.Calls.{IsCalled, all_events}
-use Rattle.tw_key_parts.specs.Keys.{is_key}
-use Rattle.tw_prompt_host.specs.Going.{give_up_key}
+use Rattle.tw_prompt_host.specs.Going.{gives_up}
 use Rattle.tw_prompt.specs.Sizes.{fitting}
 use Rattle.tw_prompt.specs.declared.events.Pending.{Pending}
 use Rattle.tw_prompt.specs.declared.events.Pending.TheVariants.{Nothing, Event, Fault}
@@ -18,17 +17,21 @@ use Rattle.tw_prompt.specs.declared.events.Pending.TheVariants.{Nothing, Event, 
 abbrev pub key_of_character : ℕ → EventView
 key_of_character c = Key (record { key = Char c; modifiers = modifiers_of none })
 
--- the printable character of a key
-abbrev pub printable_code : KeyCode → Option ℕ
-printable_code (Char c) = if is_printable c then Some c else None
-printable_code _ = None
+-- each character but a control character
+abbrev pub is_joining : ℕ → Bool
+is_joining c = not (is_control c)
 
--- the printable character that an event types without a modifier
-abbrev pub printable_in : EventView → Option ℕ
-printable_in (Key key) = if modifier_bits key.modifiers == none then printable_code key.key else None
-printable_in (Resized cols rows) = None
-printable_in (Paste text) = None
-printable_in Wake = None
+-- such a character of a key
+abbrev pub character_of : KeyCode → Option ℕ
+character_of (Char c) = if is_joining c then Some c else None
+character_of _ = None
+
+-- such a character that an event types without a modifier
+abbrev pub character_in : EventView → Option ℕ
+character_in (Key key) = if modifier_bits key.modifiers == none then character_of key.key else None
+character_in (Resized cols rows) = None
+character_in (Paste text) = None
+character_in Wake = None
 
 -- a piece of what was typed: a run of characters, or one event
 pub data Piece : Type 0 where
@@ -53,12 +56,12 @@ fitted Wake = Wake ∷ []
 
 -- the events of a prompt for a piece: a run is one pasted text
 abbrev pub told_in : Piece → List EventView
-told_in (Run text) = Paste text ∷ []
+told_in (Run text) = Paste (encode_utf8_all text) ∷ []
 told_in (Single event) = fitted event
 
--- a run has two characters or more, all of them printable, and there is none unless characters may join
+-- a run has two characters or more and no control character, and there is none unless characters may join
 abbrev pub IsRight : Bool → Piece → Type 0
-IsRight joins (Run text) = (joins ≡ true) × (2 ≤ length text) × (list_all is_printable text ≡ true)
+IsRight joins (Run text) = (joins ≡ true) × (2 ≤ length text) × (list_all is_joining text ≡ true)
 IsRight joins (Single event) = ⊤
 
 abbrev pub AreRight : Bool → List Piece → Type 0
@@ -77,9 +80,9 @@ abbrev pub wake_if : Bool → List EventView
 wake_if true = Wake ∷ []
 wake_if false = []
 
--- after the key that gives a search up comes a Wake, with which the prompt's line comes back
+-- after a key that gives a search up comes a Wake, with which the prompt's line comes back
 abbrev pub woken : EventView → List EventView
-woken event = event ∷ wake_if (is_key give_up_key event)
+woken event = event ∷ wake_if (gives_up event)
 
 abbrev pub woken_all : List EventView → List EventView
 woken_all events = flat_map woken events
@@ -87,7 +90,7 @@ woken_all events = flat_map woken events
 -- a character and more of them: the key, or a pasted text
 abbrev pub run_event : ℕ → List ℕ → EventView
 run_event first [] = key_of_character first
-run_event first (c ∷ more) = Paste (first ∷ c ∷ more)
+run_event first (c ∷ more) = Paste (encode_utf8_all (first ∷ c ∷ more))
 
 -- the key of a character that was taken, if one was
 abbrev pub keys_of : Option ℕ → List EventView

@@ -11,7 +11,7 @@ use tw_input::{InputEvent, KeyCode, KeyEvent};
 use tw_key_parts::KeyPart;
 use tw_line::{History, LentLines};
 use tw_lineedit::{CompletionCandidate, Error, LineEditBuffer, LineEditor, LineStatus};
-use tw_prompt_host::{PreparedHost, PreparedLines, PromptHost, StyledRange};
+use tw_prompt_host::{PreparedHost, PreparedLines, PromptHost, StyledRange, Validation};
 use tw_terminal::{ScreenSize, TerminalFault};
 
 /// What an application knows of its lines. Each function has a plain default body. Ranges are cut to what fits, and the
@@ -39,10 +39,10 @@ pub trait Application {
         Ok(Vec::new(alloc))
     }
 
-    /// Returns what a line lacks, or `None`, the default, if it may be accepted. In a prompt that shows rows Enter
-    /// begins a row in a line that lacks something, and in others the text is shown under the line.
-    fn lack(&self, _alloc: Global, _line: &str) -> Result<Option<String>, AllocError> {
-        Ok(None)
+    /// Says whether a line may be accepted: `Validation::Valid` by default. In a prompt that shows rows Enter begins a
+    /// row in an incomplete line; else it keeps such a line, and an invalid one always, and shows the text under it.
+    fn validate(&self, _alloc: Global, _line: &str) -> Result<Validation, AllocError> {
+        Ok(Validation::Valid)
     }
 
     /// Returns lines to print above the line that is typed: none by default. It is asked after each event.
@@ -65,7 +65,7 @@ fn resize<T: DeviceTerminal>(terminal: &mut T, event: &InputEvent)
     }
 }
 
-/// Asks for the colours of the line, and for what it lacks.
+/// Asks for the colours of the line, and whether it may be accepted.
 fn prepare_line<A: Application, T: DeviceTerminal, L, K>(
     alloc: Global,
     application: &A,
@@ -75,7 +75,7 @@ fn prepare_line<A: Application, T: DeviceTerminal, L, K>(
     let (line, cursor) = editor.get_line_and_cursor();
     host.host.ranges = application.colours(alloc, line, cursor)?;
     host.host.line = String::from_str(alloc, line)?;
-    host.validator.lack = application.lack(alloc, line)?;
+    host.validator.validation = application.validate(alloc, line)?;
     host.validator.line = String::from_str(alloc, line)?;
     Ok(())
 }
@@ -178,10 +178,10 @@ fn take_events<
 }
 
 /// Reads a line with a new editor, as `read_line_from` of `tw_device` does, and asks the application between two
-/// events: for what completes the line before a Tab, and after each event for the colours of the line, for what it
-/// lacks, and for news to print above it. The line is painted twice then: give it a `PatientTerminal`, which sends only
-/// the second painting. If a function, the terminal or memory refuses, the line is closed on the screen, and what was
-/// typed of it is lost.
+/// events: for what completes the line before a Tab, and after each event for the colours of the line, whether it may
+/// be accepted, and for news to print above it. The line is painted twice then: give it a `PatientTerminal`, which sends
+/// only the second painting. If a function, the terminal or memory refuses, the line is closed on the screen, and what
+/// was typed of it is lost.
 pub fn read_with<
     A: Application,
     S: EventSource,

@@ -1,8 +1,8 @@
 //! The arguments that `tools/at_terminal` puts before those of a program.
 
+use crate::error::PromptError;
 use crate::sizes::usable;
 use std::env;
-use std::io::{self, ErrorKind};
 use tw_terminal::ScreenSize;
 
 /// The arguments of a program.
@@ -17,19 +17,19 @@ pub struct Arguments {
 }
 
 /// Parses a number of columns or rows.
-fn number(argument: Option<String>) -> io::Result<usize> {
-    let text = argument.ok_or(ErrorKind::InvalidInput)?;
-    Ok(text.as_str().parse().map_err(|_| ErrorKind::InvalidInput)?)
+fn number(argument: Option<String>) -> Result<usize, PromptError> {
+    let text = argument.ok_or(PromptError::Arguments)?;
+    text.as_str().parse().map_err(|_| PromptError::Arguments)
 }
 
 impl Arguments {
-    /// Reads the arguments. From the first other one on all are the program's own. Fails with
-    /// `ErrorKind::InvalidInput` if `-at` or `-tty` lacks what belongs to it.
-    pub fn read(rt: HostRuntime) -> io::Result<Self> {
+    /// Reads the arguments. From the first other one on all are the program's own. Fails with `PromptError::Arguments`
+    /// if `-at` or `-tty` lacks what belongs to it.
+    pub fn read(rt: HostRuntime) -> Result<Self, PromptError> {
         let mut size = None;
         let mut file = None;
         let mut own = Vec::new(rt.alloc());
-        let mut words = env::args(&rt)?;
+        let mut words = env::args(&rt).map_err(|_| PromptError::Arguments)?;
         let _name = words.next();
         for _ in 0..u64::MAX {
             let Some(word) = words.next() else {
@@ -42,7 +42,7 @@ impl Arguments {
                     size = Some(usable(ScreenSize { rows, cols }));
                 }
                 "-tty" if own.is_empty() => file = Some(
-                    words.next().ok_or(ErrorKind::InvalidInput)?,
+                    words.next().ok_or(PromptError::Arguments)?,
                 ),
                 _ => own.push(word)?,
             }

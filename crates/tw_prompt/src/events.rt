@@ -1,14 +1,14 @@
 //! What is typed, as events for the prompt.
 
-ghost use Rattle.std.specs.Prelude.{◌≡◌, ◌++◌, ◌||◌, ℕ, List, [], true, false, map, string_bytes, IfSome};
+ghost use Rattle.std.specs.Prelude.{◌≡◌, ◌++◌, ◌||◌, ℕ, List, [], true, false, encode_utf8_all, map, string_bytes, IfSome};
 ghost use Rattle.std.specs.List.{list_all};
 ghost use Rattle.tw_input.specs.EventView.{event_view};
 ghost use Rattle.tw_device.specs.Told.{answer_events};
 ghost use Rattle.tw_device.specs.declared.keys.SourceState.TheVariants.{Going};
-ghost use Rattle.tw_surface.specs.Characters.{is_printable};
-ghost use Rattle.tw_prompt.specs.Joined.{Moves, Piece, Pieced, is_pending, keys_of, pending_events, run_event, told_in_all, key_of_character, wake_if, woken_all};
+ghost use Rattle.tw_prompt.specs.Joined.{Moves, Piece, Pieced, is_pending, is_joining, keys_of, pending_events, run_event, told_in_all, key_of_character, wake_if, woken_all};
 
-use crate::joined::{fitted, key_of_character, printable_in};
+use crate::joined::{character_in, fitted, key_of_character};
+use crate::streams::TerminalInput;
 use crate::typed::{PIECE, Typed};
 use std::alloc::Global;
 use std::io::Read;
@@ -30,21 +30,21 @@ pub enum Pending {
 }
 
 /// The events of a source, as a prompt takes them. A size that no screen has is no event. If the owner lets characters
-/// join, printable ASCII characters that are at hand at once come as one pasted text, so that one edit and one painting
-/// stand for all of them. After Ctrl-G comes a Wake, with which the line from before a search comes back.
+/// join, those that are at hand at once come as one pasted text, for which one edit and one painting do: all but control
+/// characters. After Ctrl-G and Ctrl-D comes a Wake, with which the line from before a search comes back.
 #[derive(Drop)]
 pub struct PromptEvents<S> {
     alloc: Global,
     source: S,
     joins: bool,
     pending: Pending,
-    /// True behind the key that gives a search up: a Wake comes next.
+    /// True behind a key that gives a search up: a Wake comes next.
     wakes: bool,
     state: SourceState,
     told: EventLog,
 }
 
-/// Returns true if a Wake comes after an answer: it is the key that gives a search up.
+/// Returns true if a Wake comes after an answer: it is a key that gives a search up.
 fn wakes_after(answer: &Result<Option<InputEvent>, TerminalFault>) -> bool
     ensures { woken_all (answer_events answer.now)
         ≡ answer_events answer.now ++ wake_if result }
@@ -58,18 +58,12 @@ fn wakes_after(answer: &Result<Option<InputEvent>, TerminalFault>) -> bool
 /// The events of what is typed at a terminal.
 pub type TypedEvents<R, C> = PromptEvents<KeyReader<Typed<R, C>>>;
 
-impl<R: Read, C: Clock> PromptEvents<KeyReader<Typed<R, C>>> {
-    /// Creates the events of a reader that is asked for one byte at a time, so that what is typed after the last line
-    /// is left to others. Characters join.
-    pub fn new(alloc: Global, reader: R, clock: C) -> Self {
-        let typed = Typed::new(alloc, reader, clock, 1);
-        PromptEvents::over(alloc, KeyReader::new(alloc, typed), true)
-    }
-
-    /// Creates the events of a reader that is read up to all that was typed, so that the source knows what is at hand.
-    /// What was read after the last line is lost. Characters join.
-    pub fn reading_ahead(alloc: Global, reader: R, clock: C) -> Self {
-        let typed = Typed::new(alloc, reader, clock, PIECE);
+impl<C: Clock> PromptEvents<KeyReader<Typed<TerminalInput, C>>> {
+    /// Creates the events of a terminal, at which characters join.
+    pub fn new(alloc: Global, input: TerminalInput, clock: C) -> Self {
+        let most = if input.reads_ahead() { PIECE } else { 1 };
+        let gathers = input.is_terminal();
+        let typed = Typed::new(alloc, input, clock, most, gathers);
         PromptEvents::over(alloc, KeyReader::new(alloc, typed), true)
     }
 }
@@ -122,11 +116,11 @@ impl<S: EventSource> PromptEvents<S> {
         }
     }
 
-    /// Takes the printable character that is at hand, if there is one. Another event is held back.
+    /// Takes the character that is at hand, if there is one. Another event is held back.
     fn next_character(&mut self) -> Option<char>
         ensures moves { Moves S.told S.follows self.old.source (pending_events self.old.pending)
             self.new.source (pending_events self.new.pending) (keys_of result) }
-        ensures printable { IfSome result (λ c. (is_printable c ≡ true)
+        ensures text { IfSome result (λ c. (is_joining c ≡ true)
             × (pending_events self.new.pending ≡ [])) }
         ensures joins { self.new.joins ≡ self.old.joins }
         ensures wakes { self.new.wakes ≡ self.old.wakes }
@@ -136,7 +130,7 @@ impl<S: EventSource> PromptEvents<S> {
             return None;
         }
         match self.next_typed() {
-            Ok(Some(event)) => match printable_in(&event) {
+            Ok(Some(event)) => match character_in(&event) {
                 Some(c) => Some(c),
                 None => {
                     self.pending = Pending::Event(event);
@@ -151,10 +145,10 @@ impl<S: EventSource> PromptEvents<S> {
         }
     }
 
-    /// Appends to a run the printable characters that are at hand. One for which there is no memory is held back.
+    /// Appends to a run the characters that are at hand. One for which there is no memory is held back.
     fn gather(&mut self, run: &mut String)
-        ensures moves { (more : List ℕ) × (list_all is_printable more ≡ true)
-            × (string_bytes run.new ≡ string_bytes run.old ++ more)
+        ensures moves { (more : List ℕ) × (list_all is_joining more ≡ true)
+            × (string_bytes run.new ≡ string_bytes run.old ++ encode_utf8_all more)
             × Moves S.told S.follows self.old.source (pending_events self.old.pending)
             self.new.source (pending_events self.new.pending) (map key_of_character more) }
         ensures joins { self.new.joins ≡ self.old.joins }
@@ -178,8 +172,8 @@ impl<S: EventSource> PromptEvents<S> {
 
     /// Returns a character, with those that are at hand behind it as one pasted text.
     fn joined(&mut self, first: char) -> InputEvent
-        requires { is_printable first ≡ true }
-        ensures moves { (more : List ℕ) × (list_all is_printable more ≡ true)
+        requires { is_joining first ≡ true }
+        ensures moves { (more : List ℕ) × (list_all is_joining more ≡ true)
             × (event_view result ≡ run_event first more)
             × Moves S.told S.follows self.old.source (pending_events self.old.pending)
             self.new.source (pending_events self.new.pending) (map key_of_character more) }
@@ -191,8 +185,9 @@ impl<S: EventSource> PromptEvents<S> {
         if run.push(first).is_err() {
             return key_of_character(first);
         }
+        let lone = run.len();
         self.gather(&mut run);
-        if run.len() > 1 {
+        if run.len() > lone {
             InputEvent::Paste(run)
         } else {
             key_of_character(first)
@@ -214,7 +209,7 @@ impl<S: EventSource> PromptEvents<S> {
             let Some(event) = self.next_typed()? else {
                 return Ok(None);
             };
-            match (self.joins, printable_in(&event)) {
+            match (self.joins, character_in(&event)) {
                 (true, Some(c)) => return Ok(Some(self.joined(c))),
                 _ => {}
             }

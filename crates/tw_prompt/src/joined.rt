@@ -3,23 +3,15 @@
 ghost use Rattle.std.specs.Prelude.{◌≡◌};
 ghost use Rattle.tw_input.specs.EventView.{event_view};
 ghost use Rattle.tw_device.specs.Told.{events_in_option};
-ghost use Rattle.tw_surface.specs.Characters.{is_printable};
-ghost use Rattle.tw_prompt.specs.Joined.{fitted, printable_in, key_of_character};
+ghost use Rattle.tw_prompt.specs.Joined.{character_in, fitted, key_of_character};
 
 use crate::sizes::fitting;
 use tw_input::{InputEvent, KeyCode, KeyEvent, Modifiers};
 use tw_terminal::ScreenSize;
 
-/// Returns true for printable ASCII.
-fn is_printable(c: char) -> bool
-    ensures { result ≡ is_printable c }
-{
-    ' ' <= c && c <= '~'
-}
-
-/// Returns the printable ASCII character that an event types, if it types one without a modifier.
-pub fn printable_in(event: &InputEvent) -> Option<char>
-    ensures { result ≡ printable_in (event_view event.now) }
+/// Returns the character that an event types without a modifier, unless it is a control character.
+pub fn character_in(event: &InputEvent) -> Option<char>
+    ensures { result ≡ character_in (event_view event.now) }
 {
     match event {
         InputEvent::Key(
@@ -27,7 +19,7 @@ pub fn printable_in(event: &InputEvent) -> Option<char>
                 key: KeyCode::Char(c),
                 modifiers,
             },
-        ) if *modifiers == Modifiers::NONE && is_printable(*c) => Some(*c),
+        ) if *modifiers == Modifiers::NONE && !c.is_control() => Some(*c),
         _ => None,
     }
 }

@@ -2,31 +2,40 @@
 
 use crate::application::{Application, read_with};
 use crate::arguments::Arguments;
+use crate::error::PromptError;
 use crate::events::{PromptEvents, TypedEvents};
 use crate::keys::{AllKeys, all_keys};
 use crate::line_ends::with_line_ends;
 use crate::marks::{BEGIN, END};
-use crate::streams::{TerminalInput, TerminalOutput, open_streams};
+use crate::plain::PlainLine;
+use crate::streams::{LastError, TerminalInput, TerminalOutput, open_streams};
+use std::alloc::Global;
 use std::io::Write;
 use tw_device::{Answer, DeviceTerminal, Pasted, read_line_from};
 use tw_key_parts::KeyPart;
 use tw_line::{BasicHistory, History, LentLines};
 use tw_lineedit::{Error, LineEditorHost};
-use tw_prompt_host::{Hints, PreparedHost, PreparedLines, PromptHost, Rows, Validator};
+use tw_prompt_host::{Hints, PreparedHost, PreparedLines, PromptHost, Rows, Validation, Validator};
 use tw_sparing::PatientTerminal;
-use tw_terminal::{ScreenSize, TerminalFault};
+use tw_terminal::ScreenSize;
 
 /// The columns of a prompt before it is opened at a terminal.
 const COLS: usize = 80;
 
+/// A terminal in raw mode.
+#[derive(Drop)]
+struct TerminalPlace<T> {
+    events: TypedEvents<TerminalInput, HostRuntime>,
+    terminal: T,
+    errors: LastError,
+    /// True while the terminal is asked to mark pasted texts and to tell its sizes.
+    marks: bool,
+}
+
 /// Where lines are read.
 #[derive(Drop)]
 enum Place<T> {
-    /// A terminal in raw mode.
-    Terminal {
-        events: TypedEvents<TerminalInput, HostRuntime>,
-        terminal: T,
-    },
+    Terminal(TerminalPlace<T>),
     /// Standard input, which is no terminal.
     Pipe,
 }
@@ -46,20 +55,86 @@ pub struct Prompt<T, H, L, K, V> {
     place: Box<Place<T>>,
 }
 
-/// Reads a line of standard input, without its end, which is LF or CR LF.
-fn read_plainly(rt: HostRuntime) -> Result<Answer, Error> {
-    let mut line = String::new(rt.alloc());
-    let count = rt.read_line(&mut line).map_err(TerminalFault::from)?;
-    if count == 0 {
-        return Ok(Answer::End(line));
-    }
-    if line.as_str().ends_with('\n') {
-        let _feed = line.pop();
-        if line.as_str().ends_with('\r') {
-            let _return = line.pop();
+impl<T: DeviceTerminal> TerminalPlace<T> {
+    /// Returns why a call failed, which the streams may know better.
+    fn refusal(&self, error: Error) -> PromptError {
+        match (error, self.errors.take()) {
+            (Error::Terminal(_), Some(error)) => PromptError::Terminal(error),
+            (error, _) => PromptError::Editor(error),
         }
     }
-    Ok(Answer::Line(line))
+
+    /// Sends a text.
+    fn send(&mut self, text: &str) -> Result<(), PromptError> {
+        let sent = self.terminal.send(text);
+        sent.map_err(|fault| self.refusal(Error::Terminal(fault)))
+    }
+
+    /// Asks the terminal to mark pasted texts, and to tell its sizes.
+    fn begin(&mut self) -> Result<(), PromptError> {
+        let _told = self.errors.take();
+        self.marks = true;
+        self.send(BEGIN)
+    }
+
+    /// Asks the terminal to do neither any more, if it was asked to.
+    fn end(&mut self) -> Result<(), PromptError> {
+        if self.marks {
+            self.send(END)?;
+            self.marks = false;
+        }
+        Ok(())
+    }
+
+    /// Reads a line.
+    fn read<H: LineEditorHost>(
+        &mut self,
+        alloc: Global,
+        host: &mut H,
+        prompt: &str,
+    ) -> Result<Answer, PromptError> {
+        self.begin()?;
+        let answer = read_line_from(alloc, &mut self.events, &mut self.terminal, host, prompt);
+        answer.map_err(|error| self.refusal(error))
+    }
+
+    /// Reads a line with the functions of an application.
+    fn read_with<A: Application, L: History + LentLines, K: KeyPart>(
+        &mut self,
+        alloc: Global,
+        application: &mut A,
+        host: &mut PromptHost<PreparedHost, L, K, PreparedLines>,
+        prompt: &str,
+    ) -> Result<Answer, PromptError> {
+        self.begin()?;
+        let answer = read_with(
+            alloc,
+            application,
+            &mut self.events,
+            &mut self.terminal,
+            host,
+            prompt,
+        );
+        answer.map_err(|error| self.refusal(error))
+    }
+}
+
+/// Reads a line of standard input, by what an application says of its rows.
+fn read_plainly_with<A: Application>(
+    rt: HostRuntime,
+    application: &A,
+) -> Result<Answer, PromptError> {
+    let mut line = PlainLine::new(rt);
+    for _ in 0..u64::MAX {
+        if !line.read_row()? {
+            break;
+        }
+        let validation = application.validate(rt.alloc(), line.text.as_str())?;
+        if line.is_accepted(validation)? {
+            return Ok(Answer::Line(line.text));
+        }
+    }
+    Ok(Answer::End(line.text))
 }
 
 /// Returns what stands for the rows of a pasted text in a prompt: its rows only if the prompt shows rows.
@@ -73,7 +148,7 @@ fn pasted_for(rows: &Rows) -> Pasted {
 
 impl Prompt<PromptTerminal, PreparedHost, BasicHistory, AllKeys, PreparedLines> {
     /// Opens a prompt with this text, all keys, hints after the cursor, and an empty history.
-    pub fn open(rt: HostRuntime, prompt: &str) -> Result<Self, Error> {
+    pub fn open(rt: HostRuntime, prompt: &str) -> Result<Self, PromptError> {
         let alloc = rt.alloc();
         let mut host = PromptHost::new(alloc, prompt, COLS)?
             .with_host(PreparedHost::new(alloc))
@@ -90,22 +165,22 @@ impl<
     K: KeyPart + Drop,
     V: Validator + Drop,
 > Prompt<PromptTerminal, H, L, K, V> {
-    /// Opens a prompt with this host, which gets the columns of the terminal. Fails with `Error::Terminal` also if the
-    /// program's arguments `-at` or `-tty` lack what belongs to them, or if the file of the terminal can't be opened.
-    pub fn over(rt: HostRuntime, host: PromptHost<H, L, K, V>) -> Result<Self, Error> {
-        let arguments = Arguments::read(rt).map_err(TerminalFault::from)?;
+    /// Opens a prompt with this host, which gets the columns of the terminal. Fails with `PromptError::Arguments` if the
+    /// program's arguments `-at` or `-tty` lack what belongs to them, and with `PromptError::Opening` if the file of the
+    /// terminal can't be opened.
+    pub fn over(rt: HostRuntime, host: PromptHost<H, L, K, V>) -> Result<Self, PromptError> {
+        let arguments = Arguments::read(rt)?;
         let Some(size) = arguments.size else {
             return Prompt::at_pipe(rt, host);
         };
         let file = arguments.file.as_ref().map(|file| file.as_str());
-        let (input, output) = open_streams(rt, file).map_err(TerminalFault::from)?;
-        let events = PromptEvents::new(rt.alloc(), input, rt);
+        let (input, output) = open_streams(rt, file)?;
         let terminal = PatientTerminal::new(rt.alloc(), output, size);
-        Prompt::at_terminal(rt, host, events, terminal, size)
+        Prompt::at_terminal(rt, host, input, terminal, size)
     }
 
     /// Creates a prompt at standard input, which is no terminal.
-    pub fn at_pipe(rt: HostRuntime, host: PromptHost<H, L, K, V>) -> Result<Self, Error> {
+    pub fn at_pipe(rt: HostRuntime, host: PromptHost<H, L, K, V>) -> Result<Self, PromptError> {
         let host = Box::new(rt.alloc(), host)?;
         let place = Box::new(rt.alloc(), Place::Pipe)?;
         Ok(Prompt {
@@ -124,59 +199,81 @@ impl<
     K: KeyPart + Drop,
     V: Validator + Drop,
 > Prompt<T, H, L, K, V> {
-    /// Creates a prompt at a terminal of this size, which is asked to mark pasted texts and to tell its new sizes. The
-    /// host gets its columns.
+    /// Creates a prompt at a terminal of this size, whose bytes come from `input`. The host gets its columns.
     pub fn at_terminal(
         rt: HostRuntime,
         host: PromptHost<H, L, K, V>,
-        events: TypedEvents<TerminalInput, HostRuntime>,
+        input: TerminalInput,
         terminal: T,
         size: ScreenSize,
-    ) -> Result<Self, Error> {
+    ) -> Result<Self, PromptError> {
         let mut host = Box::new(rt.alloc(), host)?;
         host.menu.cols = size.cols;
         host.screen.cols = size.cols;
-        let place = Box::new(rt.alloc(), Place::Terminal { events, terminal })?;
-        let mut prompt = Prompt {
+        let place = Place::Terminal(TerminalPlace {
+            errors: input.errors()?,
+            events: PromptEvents::new(rt.alloc(), input, rt),
+            terminal,
+            marks: false,
+        });
+        Ok(Prompt {
             host,
             remembers: true,
             rt,
-            place,
-        };
-        prompt.send(BEGIN)?;
-        Ok(prompt)
+            place: Box::new(rt.alloc(), place)?,
+        })
     }
 
-    /// Sends a text to the terminal, and none to a pipe.
-    fn send(&mut self, text: &str) -> Result<(), Error> {
-        match &mut *self.place {
-            Place::Pipe => Ok(()),
-            Place::Terminal { terminal, .. } => Ok(terminal.send(text)?),
-        }
-    }
-
-    /// Forgets what the last line left, and lets pasted texts keep their rows if the host shows rows.
-    fn begin_line(&mut self) {
+    /// Forgets what the last line left, and lets pasted texts keep their rows if the host shows rows. Returns the
+    /// prompt.
+    fn begin_line(&mut self) -> Result<String, PromptError> {
         self.host.begin_line();
-        if let Place::Terminal { events, .. } = &mut *self.place {
-            events.set_pasted(pasted_for(&self.host.rows));
+        if let Place::Terminal(place) = &mut *self.place {
+            place.events.set_pasted(pasted_for(&self.host.rows));
         }
+        Ok(self.host.screen.prompt.clone()?)
+    }
+
+    /// Ends a reading: the terminal marks nothing any more, and an accepted line goes into the history. If the terminal
+    /// refuses, the line is answered all the same, and `close` asks once more.
+    fn end_line(&mut self, answer: Result<Answer, PromptError>) -> Result<Answer, PromptError> {
+        if let Place::Terminal(place) = &mut *self.place {
+            let _unmarked = place.end();
+        }
+        if let Ok(answer) = &answer {
+            self.remember(answer);
+        }
+        answer
     }
 
     /// Reads a line. The prompt is `host.screen.prompt`, and pasted texts keep their rows if `host` shows rows. What the
-    /// last line left, accepted or not, is forgotten first.
-    pub fn read(&mut self) -> Result<Answer, Error> {
-        self.begin_line();
+    /// last line left, accepted or not, is forgotten first. Meanwhile the terminal marks pasted texts and tells its
+    /// sizes. At a pipe an incomplete line goes on with the next one, behind a line feed, and why a line is invalid is
+    /// written to standard error.
+    pub fn read(&mut self) -> Result<Answer, PromptError> {
+        let prompt = self.begin_line()?;
+        let alloc = self.rt.alloc();
         let answer = match &mut *self.place {
-            Place::Pipe => read_plainly(self.rt)?,
-            Place::Terminal { events, terminal } => {
-                let prompt = self.host.screen.prompt.clone()?;
-                let alloc = self.rt.alloc();
-                read_line_from(alloc, events, terminal, &mut *self.host, prompt.as_str())?
-            }
+            Place::Pipe => self.read_plainly(),
+            Place::Terminal(place) => place.read(alloc, &mut *self.host, prompt.as_str()),
         };
-        self.remember(&answer);
-        Ok(answer)
+        self.end_line(answer)
+    }
+
+    /// Reads a line of standard input, by what the validator says of its rows.
+    fn read_plainly(&self) -> Result<Answer, PromptError> {
+        let alloc = self.rt.alloc();
+        let mut line = PlainLine::new(self.rt);
+        for _ in 0..u64::MAX {
+            if !line.read_row()? {
+                break;
+            }
+            let validation = self.host.validator.validate(alloc, line.text.as_str())?;
+            if line.is_accepted(validation)? {
+                return Ok(Answer::Line(line.text));
+            }
+        }
+        Ok(Answer::End(line.text))
     }
 
     /// Adds an accepted line to the history. If there is no memory for it, the line is not kept.
@@ -190,30 +287,33 @@ impl<
     }
 
     /// Prints lines, which end with CR LF at a terminal. An unfinished last line is ended, and of no line nothing is
-    /// sent. The text is sent as it is, so it has to leave no attribute set. A refusal may have sent a beginning.
-    pub fn print(&mut self, text: &str) -> Result<(), Error> {
-        let end = match &*self.place {
-            Place::Pipe => "\n",
-            Place::Terminal { .. } => "\r\n",
-        };
-        let shown = with_line_ends(self.rt.alloc(), text, end)?;
-        if shown.is_empty() {
-            return Ok(());
-        }
+    /// sent. The text is sent as it is, so it has to leave no attribute set: see `visible` for texts from elsewhere. A
+    /// refusal may have sent a beginning.
+    pub fn print(&mut self, text: &str) -> Result<(), PromptError> {
+        let alloc = self.rt.alloc();
         match &mut *self.place {
-            Place::Pipe => self
-                .rt
-                .stdout()
-                .write_all(shown.as_bytes())
-                .map_err(TerminalFault::from)?,
-            Place::Terminal { terminal, .. } => terminal.send(shown.as_str())?,
+            Place::Pipe => {
+                let shown = with_line_ends(alloc, text, "\n")?;
+                let written = self.rt.stdout().write_all(shown.as_bytes());
+                written.map_err(PromptError::Pipe)
+            }
+            Place::Terminal(place) => {
+                let shown = with_line_ends(alloc, text, "\r\n")?;
+                if shown.is_empty() {
+                    return Ok(());
+                }
+                place.send(shown.as_str())
+            }
         }
-        Ok(())
     }
 
-    /// Has the terminal mark nothing and tell no sizes any more, as before the prompt.
-    pub fn close(mut self) -> Result<(), Error> {
-        self.send(END)
+    /// Ends the session: if the terminal still marks pasted texts, since it refused at the end of a line, it is asked
+    /// once more not to.
+    pub fn close(mut self) -> Result<(), PromptError> {
+        match &mut *self.place {
+            Place::Pipe => Ok(()),
+            Place::Terminal(place) => place.end(),
+        }
     }
 }
 
@@ -225,25 +325,19 @@ impl<T: DeviceTerminal + Drop, L: History + LentLines + Drop, K: KeyPart + Drop>
     PreparedLines,
 > {
     /// Reads a line as `read` does, with the functions of an application.
-    pub fn read_with<A: Application>(&mut self, application: &mut A) -> Result<Answer, Error> {
-        self.begin_line();
+    pub fn read_with<A: Application>(
+        &mut self,
+        application: &mut A,
+    ) -> Result<Answer, PromptError> {
+        let prompt = self.begin_line()?;
+        let alloc = self.rt.alloc();
         let answer = match &mut *self.place {
-            Place::Pipe => read_plainly(self.rt),
-            Place::Terminal { events, terminal } => {
-                let prompt = self.host.screen.prompt.clone()?;
-                read_with(
-                    self.rt.alloc(),
-                    application,
-                    events,
-                    terminal,
-                    &mut *self.host,
-                    prompt.as_str(),
-                )
+            Place::Pipe => read_plainly_with(self.rt, application),
+            Place::Terminal(place) => {
+                place.read_with(alloc, application, &mut *self.host, prompt.as_str())
             }
         };
-        self.host.validator.lack = None;
-        let answer = answer?;
-        self.remember(&answer);
-        Ok(answer)
+        self.host.validator.validation = Validation::Valid;
+        self.end_line(answer)
     }
 }

@@ -1,5 +1,5 @@
 -- A search that finds nothing.
-use Rattle.std.specs.Prelude.{ℕ, ◌&&◌, Bool, List, length, Option, Some}
+use Rattle.std.specs.Prelude.{ℕ, ◌&&◌, Bool, List, codes, length, Option, Some, if◌then◌else◌}
 use Rattle.std.specs.Option.{is_none}
 use Rattle.tw_line.specs.Extremes.{greatest_below, iterate}
 use Rattle.tw_line.specs.NearestMatch.{matches}
@@ -24,3 +24,7 @@ pattern_after _ cut = cut
 abbrev pub fails_after : List (List ℕ) → Bool → Option ActionView → Cut → Bool
 fails_after lines searching action cut =
     (searching && searches_after (has_lines lines) action searching) && is_failing lines (pattern_after action cut).line
+
+-- what is said after the line of a search that fails, and of a history that has no lines to search
+abbrev pub failing_text : Bool → List ℕ
+failing_text searching = if searching then codes "  failing: no line has it" else codes "  no history to search"

@@ -1,6 +1,6 @@
 -- The rest of the newest line that goes on from a text.
-use Rattle.std.specs.Prelude.{ℕ, ◌-◌, ◌==◌, ◌&&◌, ◌||◌, nat_lt, Bool, true, false, not, List, [], ◌∷◌, length, take, drop, eqb, Option, Some, None, option_map, if◌then◌else◌}
-use Rattle.std.specs.List.{starts_with}
+use Rattle.std.specs.Prelude.{ℕ, ◌-◌, ◌==◌, ◌&&◌, ◌||◌, nat_lt, Bool, true, false, not, List, [], ◌∷◌, ◌++◌, length, take, drop, encode_utf8, eqb, Option, Some, None, option_map, if◌then◌else◌}
+use Rattle.std.specs.List.{position_or_len, starts_with}
 use Rattle.std.specs.Str.{trim_start}
 use Rattle.tw_line.specs.Extremes.{greatest_below}
 use Rattle.tw_line.specs.NearestMatch.{line_at}
@@ -10,6 +10,7 @@ use Rattle.tw_host.specs.ActionView.{ActionView, Move}
 use Rattle.tw_host.specs.ElementView.{ElementView}
 use Rattle.tw_host.specs.HostRules.{plain_text}
 use Rattle.tw_hosts.specs.Words.{after_word}
+use Rattle.tw_surface.specs.Characters.{lf}
 use Rattle.tw_surface.specs.Defaults.{default_attributes}
 use Rattle.tw_surface.specs.declared.cell.Intensity.TheVariants.{Half}
 use Rattle.tw_prompt_host.specs.declared.hint.Hints.{Hints}
@@ -71,8 +72,14 @@ abbrev pub hint_if_under : Hints → Option (List ℕ) → Option (List ℕ)
 hint_if_under Under hint = hint
 hint_if_under _ hint = None
 
+-- the first row of a hint, before … if there are others
+abbrev pub hint_row : List ℕ → List ℕ
+hint_row rest =
+    let end = position_or_len (λ b. b == lf) rest in
+    if end == length rest then rest else take end rest ++ encode_utf8 8230
+
 -- what another host shows under the line, or where it shows nothing the hint
 abbrev pub shown_under : List ElementView → Option (List ℕ) → List ElementView
 shown_under [] None = []
-shown_under [] (Some rest) = plain_text rest
+shown_under [] (Some rest) = plain_text (hint_row rest)
 shown_under (element ∷ elements) hint = element ∷ elements

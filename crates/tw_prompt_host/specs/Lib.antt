@@ -6,6 +6,8 @@ pub mod Prepared
 pub mod AfterLine
 pub mod FailingSearch
 pub mod Going
+pub mod Validation
+pub mod Verdicts
 pub mod PromptRules
 pub mod Rows
 pub mod Plain

@@ -3,6 +3,7 @@ use Rattle.std.specs.Prelude.{◌≡◌, ℕ, ◌+◌, ◌==◌, ◌&&◌, leb, 
 use Rattle.std.specs.Char.{IsScalar}
 use Rattle.std.specs.List.{find, list_all, list_any}
 use Rattle.std.specs.Str.{IsUtf8}
+use Rattle.tw_prompt_host.specs.Validation.{ValidationView, Valid, Incomplete, Invalid}
 use Rattle.tw_prompt_host.specs.declared.marks.MarkKind.{MarkKind}
 use Rattle.tw_prompt_host.specs.declared.marks.MarkKind.TheVariants.{Brackets, Quotation, Escape}
 use Rattle.tw_prompt_host.specs.declared.marks.MarkPair.{MarkPair}
@@ -116,17 +117,17 @@ module _ (pairs : List MarkPair) where
   abbrev pub closed_mark : List ℕ → ℕ → Option OpenMark
   closed_mark text c = closed_in c (nesting_of text)
 
--- ---- what a line lacks
+-- ---- what is said of a line
 
 -- a text after a mark
 abbrev pub marked_text : ℕ → List ℕ → List ℕ
 marked_text mark text = encode_utf8 mark ++ text
 
--- what is said of what a line leaves: of the innermost of the open marks, and nothing where no mark is open
-abbrev pub lack_of : NestingView → Option (List ℕ)
-lack_of (Open []) = None
-lack_of (Open (last ∷ opens)) = Some (marked_text last.pair.opening (codes " is open"))
-lack_of (Wrong mark at) = Some (marked_text mark (codes " closes nothing"))
+-- what is said of a line that leaves these marks: it lacks the innermost open one, and no more text closes a wrong one
+abbrev pub validation_of : NestingView → ValidationView
+validation_of (Open []) = Valid
+validation_of (Open (last ∷ opens)) = Incomplete (marked_text last.pair.opening (codes " is open"))
+validation_of (Wrong mark at) = Invalid (marked_text mark (codes " closes nothing"))
 
 -- ---- what whole texts are made of
 

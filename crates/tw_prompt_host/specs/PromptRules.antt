@@ -1,51 +1,42 @@
 -- A prompt: a host with a history, completers, keys, hints, a validator, a menu and a screen.
-use Rattle.std.specs.Prelude.{ℕ, ◌==◌, ◌&&◌, ◌||◌, Bool, true, false, not, List, [], ◌++◌, codes, length, Option, Some, None, option_map, unwrap_or, if◌then◌else◌, ◌≡◌}
-use Rattle.std.specs.Option.{is_none}
-use Rattle.tw_surface.specs.Characters.{lf}
+use Rattle.std.specs.Prelude.{ℕ, ◌==◌, ◌&&◌, ◌||◌, Bool, true, false, not, List, [], ◌++◌, length, Option, Some, None, option_map, unwrap_or, if◌then◌else◌, ◌≡◌}
 use Rattle.tw_surface.specs.Defaults.{default_attributes}
-use Rattle.tw_input.specs.EventView.{EventView, Key}
+use Rattle.tw_input.specs.EventView.{EventView}
 use Rattle.tw_line.specs.Cut.{Cut}
 use Rattle.tw_line.specs.declared.movements.Movement.TheVariants as movement
-use Rattle.tw_host.specs.ActionView.{ActionView, Complete, InsertChar, InsertText, Move, NoAction, AcceptLine}
+use Rattle.tw_host.specs.ActionView.{ActionView, Cancel, Complete, HistoryIncSearchBackwards, HistoryIncSearchForwards, InsertText, Move}
 use Rattle.tw_host.specs.CandidateView.{CandidateView}
 use Rattle.tw_host.specs.ElementView.{ElementView}
-use Rattle.tw_host.specs.HostRules.{HostRules, Resolution, or_default, plain_text}
+use Rattle.tw_host.specs.HostRules.{HostRules, Resolution, or_default}
 use Rattle.tw_host.specs.KeyTable.{action_of}
 use Rattle.tw_hosts.specs.Settling.{PromptScreenView, screen_after}
 use Rattle.tw_completion_parts.specs.Completers.{context_candidates}
 use Rattle.tw_completion_parts.specs.declared.completers.ContextCompleter.{ContextCompleter}
 use Rattle.tw_completion_parts.specs.declared.file_names.Listing.{Listing}
 use Rattle.tw_completion_parts.specs.SharedCandidate.{beginning_first}
-use Rattle.tw_key_parts.specs.Keys.{is_key}
 use Rattle.tw_key_parts.specs.KeyRules.{Edited, KeyRules, step_of}
 use Rattle.tw_key_parts.specs.SearchWatch.{has_lines, searches_after}
-use Rattle.tw_prompt_host.specs.Going.{Came, give_up_key, going_after, event_line, hides_hint}
+use Rattle.tw_prompt_host.specs.Going.{Came, ends_search, event_line, gives_up, going_after, hides_hint}
 use Rattle.tw_prompt_host.specs.Hint.{are_on, hint_if_under, hint_of, hint_taken_by, shown_under}
 use Rattle.tw_prompt_host.specs.AfterLine.{after_line_on}
-use Rattle.tw_prompt_host.specs.FailingSearch.{fails_after, is_failing}
+use Rattle.tw_prompt_host.specs.FailingSearch.{failing_text, fails_after, is_failing}
 use Rattle.tw_prompt_host.specs.MenuLayout.{style_after}
 use Rattle.tw_prompt_host.specs.Menu.{asks, is_menu_open, menu_begun, offered, page_or, turn_line, turn_unless, turned}
 use Rattle.tw_prompt_host.specs.Rows.{are_shown, highlight_on}
+use Rattle.tw_prompt_host.specs.Validation.{ValidationView, Valid, reason_or}
+use Rattle.tw_prompt_host.specs.Verdicts.{accepting, failing_by, said, verdict_on}
+use Rattle.tw_prompt_host.specs.declared.answers.Verdict.{Verdict}
+use Rattle.tw_prompt_host.specs.declared.answers.Verdict.TheVariants.{Passes, Fails}
 use Rattle.tw_prompt_host.specs.declared.going.Going.{Going}
 use Rattle.tw_prompt_host.specs.declared.hint.Hints.{Hints}
 use Rattle.tw_prompt_host.specs.declared.hint.Hints.TheVariants.{After}
 use Rattle.tw_prompt_host.specs.declared.layout.MenuStyle.{MenuStyle}
 use Rattle.tw_prompt_host.specs.declared.menu.Menu.{Menu}
 
--- the action accepts the line
-abbrev pub is_accepting : Option ActionView → Bool
-is_accepting (Some AcceptLine) = true
-is_accepting _ = false
-
--- what is shown under a line: what it lacks, where it was kept and lacks something, and else the other host's
-abbrev pub shown_lack : Bool → Option (List ℕ) → List ElementView → List ElementView
-shown_lack true (Some text) elements = plain_text text
-shown_lack _ _ elements = elements
-
 -- what the application's host holds, the lines of the history and those of them that are lent, the completers with
 -- listings of directories, what the keys hold, how hints are shown, whether a search that fails is not accepted, what
--- lines lack, how the menu is shown, the screen, the prompt before other rows of a line if it is shown in rows, and
--- what belongs to one line
+-- is said of lines, how the menu is shown, the screen, the prompt before other rows of a line if it is shown in rows,
+-- and what belongs to one line
 pub record Prompted (V S : Type 0) : Type 0 where
   pub host : V
   pub lines : List (List ℕ)
@@ -55,7 +46,7 @@ pub record Prompted (V S : Type 0) : Type 0 where
   pub keys : S
   pub hints : Hints
   pub stops_failing_searches : Bool
-  pub lacks : List ℕ → Option (List ℕ)
+  pub judges : List ℕ → ValidationView
   pub style : MenuStyle
   pub screen : PromptScreenView
   pub rows : Option (List ℕ)
@@ -79,10 +70,15 @@ module _ {K : Type 0} where
   completing None (Some line) = Some (record { cut = Some line; action = Complete; kept = None })
   completing None None = None
 
-  -- a search that is given up is left, or else such an edit
-  abbrev pub leaving : Bool → Option (Edited (Option K)) → Option (Edited (Option K))
-  leaving true edit = Some (record { cut = None; action = Move movement.None; kept = None })
-  leaving false edit = edit
+  -- an event that ends a search leaves it, and one that cancels has the line from before it; or else such an edit
+  abbrev pub leaving : Bool → Option Cut → Option ActionView → Option (Edited (Option K)) → Option (Edited (Option K))
+  leaving true before action edit = Some (record { cut = None; action = Move movement.None; kept = None })
+  leaving false before (Some Cancel) edit = Some (record { cut = before; action = Cancel; kept = None })
+  leaving false before _ edit = edit
+
+  -- the action of such an edit, if there is one
+  abbrev pub edit_action : Option (Edited (Option K)) → Option ActionView
+  edit_action edit = option_map (λ (edit : Edited (Option K)). edit.action) edit
 
   -- the host's action goes first, and then such an edit
   abbrev pub answered : Option ActionView → Option (Edited (Option K)) → Cut → Answer K
@@ -90,10 +86,11 @@ module _ {K : Type 0} where
   answered None (Some edit) cut = record { cut = unwrap_or edit.cut cut; action = Some edit.action; kept = edit.kept }
   answered None None cut = record { cut = cut; action = None; kept = None }
 
--- an action that would accept a line that is kept: it begins a row, or does nothing
-abbrev pub said : Bool → Bool → Option ActionView → Option ActionView
-said true opens action = Some (if opens then InsertChar 1 lf else NoAction)
-said false opens action = action
+-- an action that searches
+abbrev pub begins_search : Option ActionView → Bool
+begins_search (Some HistoryIncSearchBackwards) = true
+begins_search (Some HistoryIncSearchForwards) = true
+begins_search _ = false
 
 -- a hint after a line, if hints stand there
 abbrev pub hint_if_after : Hints → PromptScreenView → Option (List ℕ) → List ℕ → Option (List ℕ) → List ElementView
@@ -105,12 +102,12 @@ module _ {V S K : Type 0} (keys : KeyRules S K) (rules : HostRules V) where
   abbrev pub hint_under : Prompted V S → List ℕ → Option (List ℕ)
   hint_under v line = hint_if_under v.hints (hint_of v.lent line)
 
-  -- what stands after the line: in a search that it fails, and else the hint, at the end of a line that is not over and
-  -- was not kept, while no menu is open
+  -- what stands after the line: that a search fails, and else the hint, at the end of a line that is not over and was
+  -- not kept, while no menu is open
   abbrev pub after_line : Prompted V S → Cut → List ElementView
   after_line v cut =
-      if v.going.searching
-      then if v.going.fails then after_line_on v.screen v.rows cut.line default_attributes (codes "  failing: no line has it") else []
+      if v.going.fails then after_line_on v.screen v.rows cut.line default_attributes (failing_text v.going.searching)
+      else if v.going.searching then []
       else if (not v.going.over && not v.going.kept) && (not (is_menu_open v.going.menu) && (cut.cursor == length cut.line))
       then hint_if_after v.hints v.screen v.rows cut.line (hint_of v.lent cut.line)
       else []
@@ -128,34 +125,35 @@ module _ {V S K : Type 0} (keys : KeyRules S K) (rules : HostRules V) where
   abbrev pub turn_at : Prompted V S → EventView → Cut → Option Menu
   turn_at v event cut = turned (begun_at v (action_of event) cut) event (action_of event) v.going.menu
 
-  -- the edit that an event has without the menu: a search is left, a hint is taken, or that of the parts
+  -- the edit of an event in a line that is not searched for: a hint is taken, or that of the parts
+  abbrev pub line_edit : Prompted V S → EventView → Cut → Option (Edited (Option K))
+  line_edit v event cut =
+      let hint = if are_on v.hints then hint_taken_by v.lent (hides_hint v.going) (action_of event) cut else None in
+      hint_or cut hint (keys.edits v.keys (record { event = event; searching = v.going.searching; lines = v.lines; cut = cut }))
+
+  -- the edit that an event has without the menu
   abbrev pub edit_at : Prompted V S → EventView → Cut → Option (Edited (Option K))
   edit_at v event cut =
-      let hint = if are_on v.hints then hint_taken_by v.lent (hides_hint v.going) (action_of event) cut else None in
-      leaving (v.going.searching && is_key give_up_key event)
-      (hint_or cut hint (keys.edits v.keys (record { event = event; searching = v.going.searching; lines = v.lines; cut = cut })))
+      if v.going.searching then leaving (ends_search event) v.going.before_search (action_of event) (line_edit v event cut) else line_edit v event cut
 
-  -- a line that lacks something is not to be accepted, and during a search a pattern that fails
-  abbrev pub is_kept : Prompted V S → List ℕ → Bool
-  is_kept v line =
-      if v.going.searching then v.stops_failing_searches && is_failing v.lines line else not (is_none (v.lacks line))
+  -- what becomes of accepting a line, and of accepting the line that a search found
+  abbrev pub accepting_at : Prompted V S → List ℕ → Verdict
+  accepting_at v line =
+      if v.going.searching then if v.stops_failing_searches && is_failing v.lines line then Fails else Passes
+      else accepting (are_shown v.rows) (v.judges line)
 
-  -- in its place a row begins, if the line is shown in rows and the editor does not search
-  abbrev pub opens_row : Prompted V S → Bool
-  opens_row v = are_shown v.rows && not v.going.searching
+  -- a pattern fails: after the action of the edit or of the key table, or if the host has an action of its own, before it
+  abbrev pub fails_at : Prompted V S → EventView → Cut → Option ActionView → Bool
+  fails_at v event cut own =
+      let action = or_default (edit_action (edit_at v event cut)) event in
+      failing_by own (accepting_at v cut.line) (v.stops_failing_searches && fails_after v.lines v.going.searching action cut)
 
-  -- a search would fail after the key table's action
-  abbrev pub fails_by_key : Prompted V S → EventView → Cut → Bool
-  fails_by_key v event cut = v.stops_failing_searches && fails_after v.lines v.going.searching (action_of event) cut
-
-  -- an answer is done, or held back, and all follow what came of the event in the end; `fails` is whether a search would
-  -- fail by the key table, and then or where accepting is held back the prompt says that it fails
-  abbrev pub judged : Prompted V S → EventView → Cut → V → Answer K → Option Menu → Bool → Bool → Resolution (Prompted V S)
-  judged v event cut value answer turn back fails =
-      let action = said back (opens_row v) answer.action in
+  -- an answer is done, or what became of it is done in its place, and all follow what came of the event in the end
+  abbrev pub judged : Prompted V S → EventView → Cut → V → Answer K → Option Menu → Verdict → Bool → Resolution (Prompted V S)
+  judged v event cut value answer turn verdict fails =
+      let action = said verdict answer.action in
       let done = or_default action event in
-      let held = back && not (opens_row v) in
-      let came : Came = record { event = event; before = cut; after = answer.cut; action = done; back = held; fails = held || (is_none action && fails); turn = turn } in
+      let came : Came = record { event = event; before = cut; after = answer.cut; action = done; verdict = verdict; fails = fails; turn = turn } in
       record {
         value = record v {
           host = value;
@@ -177,18 +175,22 @@ module _ {V S K : Type 0} (keys : KeyRules S K) (rules : HostRules V) where
   abbrev pub turn_taken_at : Prompted V S → EventView → Cut → Option Menu
   turn_taken_at v event cut = turn_unless (rules.resolve v.host event cut).action (edit_at v event cut) (turn_at v event cut)
 
-  -- an event at a line; an answer is held back that would accept a line that is kept
+  -- what becomes of an action at a line: one that accepts it is judged, and a search begins only if there are lines
+  abbrev pub verdict_at : Prompted V S → Cut → Option ActionView → Verdict
+  verdict_at v cut action = verdict_on (accepting_at v cut.line) (v.going.searching || has_lines v.lines) action
+
+  -- an event at a line
   abbrev pub resolved_at : Prompted V S → EventView → Cut → Resolution (Prompted V S)
   resolved_at v event cut =
+      let own = rules.resolve v.host event cut in
       let answer = event_answer v event cut in
-      let back = is_kept v cut.line && is_accepting (or_default answer.action event) in
-      judged v event cut (rules.resolve v.host event cut).value answer (turn_taken_at v event cut) back (fails_by_key v event cut)
+      judged v event cut own.value answer (turn_taken_at v event cut) (verdict_at v cut (or_default answer.action event)) (fails_at v event cut own.action)
 
   abbrev pub prompt_rules : HostRules (Prompted V S)
   prompt_rules = record {
     lines = λ v. v.lines;
     prompt = λ v text. rules.prompt v.host text;
-    preview = λ v line. page_or v.style v.going.menu (shown_lack v.going.kept (v.lacks line) (shown_under (rules.preview v.host line) (hint_under v line)));
+    preview = λ v line. reason_or (if v.going.kept then v.judges line else Valid) (page_or v.style v.going.menu (shown_under (rules.preview v.host line) (hint_under v line)));
     highlight = λ v cut. let shown = highlight_on v.screen v.rows cut (rules.highlight v.host cut) in
         record { elements = shown.elements ++ after_line v cut; column = shown.column };
     candidates = λ v cut. offered v.going.menu (found v cut);
@@ -215,11 +217,21 @@ module _ {V S K : Type 0} (keys : KeyRules S K) (rules : HostRules V) where
     pub kept : (v : Prompted V S) (event : EventView) (cut : Cut) → let after = (prompt_rules keys rules).resolve v event cut in
         v.going.searching ≡ true → after.value.going.searching ≡ true → after.value.going.before_search ≡ v.going.before_search
 
-  -- the key that gives a search up leaves it, unless the application's host has another action, and the line before it
-  -- stands at the next event
+  -- an event that ends a search leaves it, unless the application's host has another action; if it gives the search up,
+  -- the line before it stands at the next event, and one that cancels has that line
   pub record GivesLineBack : Type 0 where
-    pub left : (v : Prompted V S) (cut : Cut) → v.going.searching ≡ true → (rules.resolve v.host (Key give_up_key) (event_line v.going cut)).action ≡ None
-        → let after = (prompt_rules keys rules).resolve v (Key give_up_key) cut in
-        (after.action ≡ Some (Move movement.None)) × (after.value.going.comes_back ≡ v.going.before_search)
+    pub left : (v : Prompted V S) (event : EventView) (cut : Cut) → v.going.searching ≡ true → ends_search event ≡ true
+        → (rules.resolve v.host event (event_line v.going cut)).action ≡ None
+        → let after = (prompt_rules keys rules).resolve v event cut in
+        (after.action ≡ Some (Move movement.None)) × (after.value.going.comes_back ≡ (if gives_up event then v.going.before_search else None))
     pub stands : (v : Prompted V S) (event : EventView) (line cut : Cut) → v.going.comes_back ≡ Some line
         → (prompt_rules keys rules).resolve v event cut ≡ resolved_at keys rules v event line
+    pub cancelled : (v : Prompted V S) (event : EventView) (line cut : Cut) → v.going.searching ≡ true → v.going.before_search ≡ Some line
+        → ends_search event ≡ false → action_of event ≡ Some Cancel → (rules.resolve v.host event (event_line v.going cut)).action ≡ None
+        → let after = (prompt_rules keys rules).resolve v event cut in
+        (after.action ≡ Some Cancel) × (after.cut ≡ line)
+
+  -- no search begins in a history without lines, whoever answers
+  abbrev pub BeginsNoSearch : Type 0
+  BeginsNoSearch = (v : Prompted V S) (event : EventView) (cut : Cut) → v.lines ≡ [] → v.going.searching ≡ false
+      → begins_search (or_default ((prompt_rules keys rules).resolve v event cut).action event) ≡ false

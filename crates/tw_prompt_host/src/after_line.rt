@@ -14,7 +14,7 @@ use tw_hosts::{PromptScreen, settled_column, styled};
 use tw_surface::{CellAttributes, Extent, cluster_width, measure_text, split_cluster};
 
 /// What stands for the rest of a text that is cut.
-const CUT: char = '…';
+pub const CUT: char = '…';
 
 /// Returns true if a control character stands in a text.
 fn has_control(text: &str) -> bool

@@ -1,13 +1,14 @@
 //! What is answered to an event, of what the host, the parts, the menu and the key table have.
 
-ghost use Rattle.std.specs.Prelude.{◌≡◌, ◌&&◌, not, option_map};
+ghost use Rattle.std.specs.Prelude.{◌≡◌, option_map};
 ghost use Rattle.tw_host.specs.ActionView.{action_view};
 ghost use Rattle.tw_host.specs.HostRules.{or_default};
 ghost use Rattle.tw_host.specs.KeyTable.{action_of};
 ghost use Rattle.tw_input.specs.EventView.{event_view};
 ghost use Rattle.tw_key_parts.specs.EditView.{edit_view, lent_action};
 ghost use Rattle.tw_prompt_host.specs.Menu.{turn_unless, turn_view};
-ghost use Rattle.tw_prompt_host.specs.PromptRules.{answered, completing, said, is_accepting};
+ghost use Rattle.tw_prompt_host.specs.PromptRules.{answered, completing, edit_action};
+ghost use Rattle.tw_prompt_host.specs.Verdicts.{failing_by, said, verdict_on};
 
 use crate::menu::{Menu, Turn};
 use tw_host::Action;
@@ -64,30 +65,79 @@ pub fn done<'a>(
     action.or(default)
 }
 
-/// Replaces an action, or else the key table's, that would accept a line which is kept: it begins a row, or does
-/// nothing. Returns true if it is held back.
+/// What becomes of an action.
+#[derive(Clone, Copy, Debug, PartialEq, Eq)]
+pub enum Verdict {
+    /// It is done.
+    Passes,
+    /// A row begins in its place.
+    Opens,
+    /// Nothing is done, and the line is kept.
+    Keeps,
+    /// Nothing is done: a search finds no line.
+    Fails,
+}
+
+/// Returns what becomes of an action, by what becomes of accepting the line. `lines` is true if the editor searches, or
+/// has lines to search.
+fn verdict_on(accepting: Verdict, lines: bool, action: Option<&Action>) -> Verdict
+    ensures { result ≡ verdict_on accepting lines (lent_action action.entry) }
+{
+    match action {
+        Some(Action::AcceptLine) => accepting,
+        Some(Action::HistoryIncSearchBackwards | Action::HistoryIncSearchForwards) if !lines => {
+            Verdict::Fails
+        }
+        _ => Verdict::Passes,
+    }
+}
+
+/// Judges an action, or else the key table's. Returns what becomes of it, and the action in its place.
 pub fn judged(
-    keeps: bool,
-    opens: bool,
+    accepting: Verdict,
+    lines: bool,
     event: &InputEvent,
     action: Option<Action>,
     default: Option<&Action>,
-) -> (bool, Option<Action>)
+) -> (Verdict, Option<Action>)
     requires { lent_action default ≡ action_of (event_view event.now) }
-    ensures back { let answer = or_default (option_map action_view action) (event_view event.now) in
-        result.0 ≡ ((keeps && is_accepting answer) && not opens) }
-    ensures action { let own = option_map action_view action in
-        let answer = or_default own (event_view event.now) in
-        option_map action_view result.1
-        ≡ said (keeps && is_accepting answer) opens own }
+    ensures verdict { let answer = or_default (option_map action_view action) (event_view event.now) in
+        result.0 ≡ verdict_on accepting lines answer }
+    ensures action { option_map action_view result.1
+        ≡ said result.0 (option_map action_view action) }
 {
-    let accepts = matches!(
-        done(event, action.as_ref(), default),
-        Some(Action::AcceptLine)
-    );
-    match (keeps && accepts, opens) {
-        (true, true) => (false, Some(Action::InsertChar(1, '\n'))),
-        (true, false) => (true, Some(Action::NoAction)),
-        (false, _) => (false, action),
+    let verdict = verdict_on(accepting, lines, done(event, action.as_ref(), default));
+    let action = match verdict {
+        Verdict::Passes => action,
+        Verdict::Opens => Some(Action::InsertChar(1, '\n')),
+        Verdict::Keeps | Verdict::Fails => Some(Action::NoAction),
+    };
+    (verdict, action)
+}
+
+/// Returns true if the pattern of a search fails after an event: `after`, or if the host has an action of its own, by
+/// what becomes of accepting the pattern before.
+pub fn failing_by(own: &Option<Action>, before: Verdict, after: bool) -> bool
+    ensures { result ≡ failing_by (option_map action_view own.now) before after }
+{
+    match own {
+        Some(_) => before == Verdict::Fails,
+        None => after,
+    }
+}
+
+/// Returns the action of an edit, or else the key table's.
+pub fn chosen<'a, K: KeyPart>(
+    _event: &InputEvent,
+    edit: &'a Option<Edit<Option<K::Note>>>,
+    default: Option<&'a Action>,
+) -> Option<&'a Action>
+    requires { lent_action default ≡ action_of (event_view _event.now) }
+    ensures { let edited = option_map (edit_view (option_map K.kept)) edit.now in
+        lent_action result ≡ or_default (edit_action edited) (event_view _event.now) }
+{
+    match edit {
+        Some(edit) => Some(&edit.action),
+        None => default,
     }
 }

@@ -2,14 +2,22 @@
 
 ghost use Rattle.std.specs.Prelude.{◌≡◌, IfOk};
 ghost use Rattle.tw_key_parts.specs.EditView.{lent_action};
-ghost use Rattle.tw_prompt_host.specs.FailingSearch.{is_failing, pattern_after};
+ghost use Rattle.tw_prompt_host.specs.FailingSearch.{failing_text, is_failing, pattern_after};
 
 use std::alloc::{AllocError, Global};
 use tw_host::Action;
 use tw_line::{History, LineEditBuffer, SearchDirection, SearchStyle};
 
-/// What is said after the line of a search that fails.
-pub const FAILING: &str = "  failing: no line has it";
+/// Returns what is said after the line of a search that fails, or of a history that has no lines to search.
+pub fn failing_text(searching: bool) -> &'static str
+    ensures { result.now ≡ failing_text searching }
+{
+    if searching {
+        "  failing: no line has it"
+    } else {
+        "  no history to search"
+    }
+}
 
 /// Returns true if no line of a history contains a pattern.
 #[tactic(auto, using(crate::proofs::FailingLemmas::none_fails))]

@@ -1,23 +1,23 @@
 //! The state of one line.
 
-ghost use Rattle.std.specs.Prelude.{◌≡◌, option_map};
+ghost use Rattle.std.specs.Prelude.{◌≡◌, ◌||◌, option_map};
 ghost use Rattle.tw_input.specs.EventView.{event_view};
 ghost use Rattle.tw_key_parts.specs.EditView.{lent_action};
-ghost use Rattle.tw_key_parts.specs.Keys.{is_key};
 ghost use Rattle.tw_key_parts.specs.SearchWatch.{searches_after};
-ghost use Rattle.tw_prompt_host.specs.Going.{going_at_rest, before_search_after, comes_back_after, give_up_key, going_after, hides_hint};
+ghost use Rattle.tw_prompt_host.specs.Going.{going_at_rest, before_search_after, comes_back_after, ends_search, gives_up, going_after, hides_hint};
 ghost use Rattle.tw_prompt_host.specs.Menu.{turn_view};
 
+use crate::answers::Verdict;
 use crate::menu::{Menu, Turn};
 use tw_host::Action;
 use tw_input::{InputEvent, KeyCode, KeyEvent, Modifiers};
 use tw_key_parts::{is_key, searches_after};
 use tw_line::LineEditBuffer;
 
-/// Gives a search up.
-const GIVE_UP: KeyEvent = KeyEvent {
-    key: KeyCode::Char('G'),
-    modifiers: Modifiers::CTRL,
+/// Leaves a search with the line that it found.
+const ESCAPE: KeyEvent = KeyEvent {
+    key: KeyCode::Escape,
+    modifiers: Modifiers::NONE,
 };
 
 /// The state of the current line, except for that of the parts with keys.
@@ -25,7 +25,7 @@ const GIVE_UP: KeyEvent = KeyEvent {
 pub struct Going {
     /// True while the editor searches.
     pub(crate) searching: bool,
-    /// True if the prompt says that the search fails.
+    /// True if the prompt says that a search finds no line.
     pub(crate) fails: bool,
     /// The line before the search, while the editor searches.
     pub(crate) before_search: Option<LineEditBuffer>,
@@ -39,11 +39,24 @@ pub struct Going {
     pub(crate) menu: Menu,
 }
 
-/// Returns true for the key that gives a search up.
+/// Returns true for the keys that give a search up, Ctrl-G and Ctrl-D.
 pub fn gives_up(event: &InputEvent) -> bool
-    ensures { result ≡ is_key give_up_key (event_view event.now) }
+    ensures { result ≡ gives_up (event_view event.now) }
 {
-    is_key(GIVE_UP, event)
+    let InputEvent::Key(press) = event else {
+        return false;
+    };
+    matches!(
+        (press.modifiers, press.key),
+        (Modifiers::CTRL, KeyCode::Char('G' | 'D'))
+    )
+}
+
+/// Returns true for the keys that leave a search: those that give it up, and Escape.
+pub fn ends_search(event: &InputEvent) -> bool
+    ensures { result ≡ ends_search (event_view event.now) }
+{
+    gives_up(event) || is_key(ESCAPE, event)
 }
 
 impl Going {
@@ -52,6 +65,13 @@ impl Going {
         ensures { result ≡ hides_hint self.now }
     {
         self.searching || self.kept || self.menu.is_open()
+    }
+
+    /// Returns true if the editor searches, or has lines to search.
+    pub fn can_search(&self, lines: bool) -> bool
+        ensures { result ≡ (self.now.searching || lines) }
+    {
+        self.searching || lines
     }
 
     /// Creates the state before a line.
@@ -74,7 +94,7 @@ impl Going {
         ensures { self.new ≡ record self.old {
           searching = searches;
           before_search = before_search_after self.old.searching searches line self.old.before_search;
-          comes_back = comes_back_after (is_key give_up_key (event_view event.now)) searches
+          comes_back = comes_back_after (gives_up (event_view event.now)) searches
               self.old.before_search;
         } }
     {
@@ -92,8 +112,8 @@ impl Going {
         self.searching = searches;
     }
 
-    /// Follows an event, which leads from the line before to the one after. `back` is true if its action was held back,
-    /// `fails` if the search fails after it.
+    /// Follows an event, which leads from the line before to the one after. `verdict` is what became of its action, and
+    /// `fails` is true if the pattern of a search fails after it.
     pub(crate) fn follow(
         &mut self,
         lines: bool,
@@ -101,7 +121,7 @@ impl Going {
         before: LineEditBuffer,
         after: &LineEditBuffer,
         action: Option<&Action>,
-        back: bool,
+        verdict: Verdict,
         fails: bool,
         turn: Option<Turn>,
     )
@@ -110,16 +130,21 @@ impl Going {
           before = before;
           after = after.now;
           action = lent_action action.entry;
-          back = back;
+          verdict = verdict;
           fails = fails;
           turn = option_map (turn_view self.old.menu) turn;
         }) self.old }
     {
         self.menu.follow(turn, &before, after, action);
-        self.kept = back || (self.kept && action.is_none());
+        self.kept = verdict == Verdict::Keeps || (self.kept && action.is_none());
         self.over = action.is_some_and(Action::ends_line);
-        self.fails = fails;
         let searches = searches_after(lines, action, self.searching);
+        let still = if searches {
+            fails
+        } else {
+            self.fails && action.is_none()
+        };
+        self.fails = verdict == Verdict::Fails || still;
         self.follow_search(event, searches, before);
     }
 }

@@ -1,9 +1,11 @@
 //! Hints from a history.
 
-ghost use Rattle.std.specs.Prelude.{◌≡◌, option_map};
+ghost use Rattle.std.specs.Prelude.{◌≡◌, IfOk, option_map, string_bytes};
 ghost use Rattle.tw_key_parts.specs.EditView.{lent_action};
-ghost use Rattle.tw_prompt_host.specs.Hint.{continuation_of, dim_hints, hint_of, is_taking, part_taken, word_of};
+ghost use Rattle.tw_prompt_host.specs.Hint.{continuation_of, dim_hints, hint_row, hint_of, is_taking, part_taken, word_of};
 
+use crate::after_line::CUT;
+use std::alloc::{AllocError, Global};
 use tw_host::Action;
 use tw_hosts::split_first_word;
 use tw_line::{LentLines, LineEditBuffer, Movement};
@@ -15,7 +17,7 @@ use tw_surface::{CellAttributes, Intensity};
 pub enum Hints {
     /// Not at all, and no key takes it.
     Off,
-    /// Under the line, if nothing else stands there.
+    /// Under the line, if nothing else stands there: its first row.
     Under,
     /// After the cursor in these attributes, as much of it as fits into the row.
     After(CellAttributes),
@@ -84,5 +86,19 @@ pub fn part_taken<'rest>(action: Option<&Action>, rest: &'rest str) -> &'rest st
     match action {
         Some(Action::Move(Movement::ForwardWord(_))) => word_of(rest),
         _ => rest,
+    }
+}
+
+/// Returns the first row of a hint, before `…` if there are others.
+pub fn hint_row(alloc: Global, rest: &str) -> Result<String, AllocError>
+    ensures { IfOk result (λ row. string_bytes row ≡ hint_row rest.now) }
+{
+    match rest.find('\n') {
+        None => String::from_str(alloc, rest),
+        Some(end) => {
+            let mut row = String::from_str(alloc, &rest[..end])?;
+            row.push(CUT)?;
+            Ok(row)
+        }
     }
 }

@@ -3,7 +3,7 @@
 ghost use Rattle.tw_host.specs.Faithful.{IsFaithful};
 ghost use Rattle.tw_prompt_host.specs.Nesting.{BracketedIsWhole, JoinedIsWhole, PlainIsWhole, QuotedIsWhole};
 ghost use Rattle.tw_prompt_host.specs.Prepared.{prepared_rules};
-ghost use Rattle.tw_prompt_host.specs.PromptRules.{GivesLineBack, KeepsLineOfSearch, PromptHasWatch};
+ghost use Rattle.tw_prompt_host.specs.PromptRules.{BeginsNoSearch, GivesLineBack, KeepsLineOfSearch, PromptHasWatch};
 ghost use Rattle.tw_prompt_host.specs.Rows.{ElementsAreSpread, OneRowIsSettled, PrintableCutIsShown, PrintableIsShown, PrintableIsSpread};
 
 use tw_host::LineEditorHost;
@@ -15,12 +15,14 @@ pub fn watch<H: LineEditorHost, K: KeyPart>()
     ensures { PromptHasWatch K.keys H.rules }
 {}
 
-/// The line before a search is kept while the editor searches. At the key that gives the search up it is left, and that
-/// line stands at the next event.
-#[tactic(auto, using(crate::proofs::SearchLemmas::gives_line_back))]
+/// The line before a search is kept while the editor searches. At a key that gives the search up it is left, and that
+/// line stands at the next event; at one that cancels it is the line at once. No search begins in a history without
+/// lines.
+#[tactic(auto, using(crate::proofs::SearchLemmas::gives_line_back, crate::proofs::SearchLemmas::begins_no_search))]
 pub fn given_up<H: LineEditorHost, K: KeyPart>()
     ensures kept { KeepsLineOfSearch K.keys H.rules }
     ensures back { GivesLineBack K.keys H.rules }
+    ensures empty { BeginsNoSearch K.keys H.rules }
 {}
 
 /// A line of one row is shown as on a screen without rows. The text of elements that are shown in rows is their text in

@@ -42,4 +42,4 @@ pub use nesting::{Nesting, closed_mark, nesting_in};
 pub use prepared::{PreparedHost, StyledRange, styled_ranges};
 pub use prompt::PromptHost;
 pub use rows::Rows;
-pub use validator::{AllLines, PreparedLines, Validator};
+pub use validator::{AllLines, PreparedLines, Validation, Validator};

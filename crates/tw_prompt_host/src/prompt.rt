@@ -1,6 +1,6 @@
 //! The prompt, and the order in which its parts answer.
 
-ghost use Rattle.std.specs.Prelude.{◌≡◌, ◌&&◌, IfOk, OnErr, OnOk, IsCharBoundary, None, if◌then◌else◌, map, not, option_map, refl};
+ghost use Rattle.std.specs.Prelude.{◌≡◌, ◌&&◌, ◌||◌, IfOk, OnErr, OnOk, IsCharBoundary, None, if◌then◌else◌, map, not, option_map, refl};
 ghost use Rattle.tw_host.specs.ActionView.{action_view};
 ghost use Rattle.tw_host.specs.CandidateView.{candidate_view};
 ghost use Rattle.tw_host.specs.ElementView.{element_view};
@@ -11,21 +11,23 @@ ghost use Rattle.tw_hosts.specs.Settling.{screen_view};
 ghost use Rattle.tw_input.specs.EventView.{event_view};
 ghost use Rattle.tw_line.specs.Cut.{cut_at};
 ghost use Rattle.tw_key_parts.specs.EditView.{edit_view, lent_action};
+ghost use Rattle.tw_key_parts.specs.SearchWatch.{has_lines};
 ghost use Rattle.tw_prompt_host.specs.Going.{going_at_rest, event_line};
-ghost use Rattle.tw_prompt_host.specs.FailingSearch.{fails_after, is_failing};
+ghost use Rattle.tw_prompt_host.specs.FailingSearch.{fails_after};
 ghost use Rattle.tw_prompt_host.specs.Menu.{turn_view};
-ghost use Rattle.tw_prompt_host.specs.PromptRules.{Prompted, after_line, begun_at, edit_at, found, is_kept, judged, prompt_rules, is_accepting};
+ghost use Rattle.tw_prompt_host.specs.PromptRules.{Prompted, accepting_at, after_line, begun_at, edit_at, found, judged, line_edit, prompt_rules};
 ghost use Rattle.tw_prompt_host.specs.Rows.{rows_view};
+ghost use Rattle.tw_prompt_host.specs.Verdicts.{verdict_on};
 
 use crate::after_line::after_line_on;
-use crate::answers::{answered, done, judged};
-use crate::failing::{FAILING, is_failing, pattern_after};
-use crate::going::{Going, gives_up};
-use crate::hint::{Hints, history_hint, is_taking, part_taken};
+use crate::answers::{Verdict, answered, chosen, done, failing_by, judged};
+use crate::failing::{failing_text, is_failing, pattern_after};
+use crate::going::{Going, ends_search};
+use crate::hint::{Hints, hint_row, history_hint, is_taking, part_taken};
 use crate::layout::{MenuStyle, menu_page};
 use crate::menu::{Menu, Turn};
 use crate::rows::Rows;
-use crate::validator::Validator;
+use crate::validator::{Validation, Validator};
 use std::alloc::{AllocError, Global};
 use tw_completion_parts::{ContextCompleter, Listing, beginning_first, complete_in_context};
 use tw_host::{
@@ -109,20 +111,28 @@ impl<H: LineEditorHost, L: History + LentLines, K: KeyPart, V: Validator> Prompt
         is_failing(alloc, &self.history, after.get_line())
     }
 
-    /// Returns true if the line is not whole, or during a search if the pattern fails.
-    fn keeps(&self, alloc: Global, line: &str) -> Result<bool, AllocError>
+    /// Returns what becomes of accepting a line, or during a search of accepting the line that was found.
+    fn accepting(&self, alloc: Global, line: &str) -> Result<Verdict, AllocError>
         ensures { let v = ⟦<PromptHost<H, L, K, V> as LineEditorHost>⟧.value self.now in
-            IfOk result (λ keeps. keeps ≡ is_kept K.keys H.rules v line.now) }
+            IfOk result (λ verdict. verdict ≡ accepting_at K.keys H.rules v line.now) }
     {
         if self.going.searching {
-            return Ok(self.stops_failing_searches && is_failing(alloc, &self.history, line)?);
+            let fails = self.stops_failing_searches && is_failing(alloc, &self.history, line)?;
+            return Ok(if fails {
+                Verdict::Fails
+            } else {
+                Verdict::Passes
+            });
         }
-        Ok(self.validator.lack(alloc, line)?.is_some())
+        Ok(match self.validator.validate(alloc, line)? {
+            Validation::Valid => Verdict::Passes,
+            Validation::Incomplete(_) if self.rows.are_shown() => Verdict::Opens,
+            Validation::Incomplete(_) | Validation::Invalid(_) => Verdict::Keeps,
+        })
     }
 
-    /// Returns the edit of an event without the menu: a search is left, a hint that is shown is taken, or that of the
-    /// parts.
-    fn edit_at(
+    /// Returns the edit of an event in the line as it is: a hint that is shown is taken, or that of the parts.
+    fn line_edit(
         &self,
         alloc: Global,
         event: &InputEvent,
@@ -132,16 +142,8 @@ impl<H: LineEditorHost, L: History + LentLines, K: KeyPart, V: Validator> Prompt
         requires { lent_action default ≡ action_of (event_view event.now) }
         ensures { let v = ⟦<PromptHost<H, L, K, V> as LineEditorHost>⟧.value self.now in
             IfOk result (λ edit. option_map (edit_view (option_map K.kept)) edit
-            ≡ edit_at K.keys H.rules v (event_view event.now) line.now) }
+            ≡ line_edit K.keys H.rules v (event_view event.now) line.now) }
     {
-        let searching = self.going.searching;
-        if searching && gives_up(event) {
-            return Ok(Some(Edit {
-                line: None,
-                action: Action::Move(Movement::None),
-                note: None,
-            }));
-        }
         if !matches!(self.hints, Hints::Off)
             && !self.going.hides_hint()
             && is_taking(default, line)
@@ -156,7 +158,7 @@ impl<H: LineEditorHost, L: History + LentLines, K: KeyPart, V: Validator> Prompt
         }
         let asked = Asked {
             event,
-            searching,
+            searching: self.going.searching,
             history: &self.history,
             line,
         };
@@ -166,6 +168,41 @@ impl<H: LineEditorHost, L: History + LentLines, K: KeyPart, V: Validator> Prompt
             action,
             note: Some(note),
         }))
+    }
+
+    /// Returns the edit of an event without the menu. One that ends a search leaves it, and one that cancels has the
+    /// line from before it.
+    fn edit_at(
+        &self,
+        alloc: Global,
+        event: &InputEvent,
+        default: Option<&Action>,
+        line: &LineEditBuffer,
+    ) -> Result<Option<Edit<Option<K::Note>>>, AllocError>
+        requires { lent_action default ≡ action_of (event_view event.now) }
+        ensures { let v = ⟦<PromptHost<H, L, K, V> as LineEditorHost>⟧.value self.now in
+            IfOk result (λ edit. option_map (edit_view (option_map K.kept)) edit
+            ≡ edit_at K.keys H.rules v (event_view event.now) line.now) }
+    {
+        if self.going.searching && ends_search(event) {
+            return Ok(Some(Edit {
+                line: None,
+                action: Action::Move(Movement::None),
+                note: None,
+            }));
+        }
+        if self.going.searching && matches!(default, Some(Action::Cancel)) {
+            let line = match &self.going.before_search {
+                Some(before) => Some(before.try_clone(alloc)?),
+                None => None,
+            };
+            return Ok(Some(Edit {
+                line,
+                action: Action::Cancel,
+                note: None,
+            }));
+        }
+        self.line_edit(alloc, event, default, line)
     }
 
     /// Completes a line, whatever the menu has.
@@ -243,8 +280,9 @@ impl<H: LineEditorHost, L: History + LentLines, K: KeyPart, V: Validator> Prompt
         Ok(action)
     }
 
-    /// Does an answer to an event, or holds it back if it would accept a line that is kept, and lets every part follow.
-    /// `fails` is true if a search would fail after the key table's action. Returns the action.
+    /// Does an answer to an event, or what becomes of it in its place, and lets every part follow. `accepting` is what
+    /// becomes of accepting the line. `fails` is true if the pattern of a search fails after the event. Returns the
+    /// action.
     fn settle(
         &mut self,
         alloc: Global,
@@ -253,7 +291,7 @@ impl<H: LineEditorHost, L: History + LentLines, K: KeyPart, V: Validator> Prompt
         before: LineEditBuffer,
         after: &LineEditBuffer,
         answer: (Option<Action>, Option<K::Note>, Option<Turn>),
-        keeps: bool,
+        accepting: Verdict,
         fails: bool,
     ) -> Option<Action>
         requires default { option_map action_view default ≡ action_of (event_view event.now) }
@@ -261,10 +299,11 @@ impl<H: LineEditorHost, L: History + LentLines, K: KeyPart, V: Validator> Prompt
         ensures { let v = ⟦<PromptHost<H, L, K, V> as LineEditorHost>⟧.value self.old in
             let action = option_map action_view answer.0 in
             let turn = option_map (turn_view self.old.going.menu) answer.2 in
-            let back = keeps && is_accepting (or_default action (event_view event.now)) in
+            let lines = v.going.searching || has_lines v.lines in
+            let verdict = verdict_on accepting lines (or_default action (event_view event.now)) in
             judged K.keys H.rules v (event_view event.now) before v.host
             (record { cut = after.now; action = action; kept = option_map K.kept answer.1 })
-            turn back fails
+            turn verdict fails
             ≡ record {
               value = ⟦<PromptHost<H, L, K, V> as LineEditorHost>⟧.value self.new;
               cut = after.now;
@@ -272,9 +311,9 @@ impl<H: LineEditorHost, L: History + LentLines, K: KeyPart, V: Validator> Prompt
             } }
     {
         let (action, note, turn) = answer;
-        let opens = self.rows.are_shown() && !self.going.searching;
-        let (back, action) = judged(keeps, opens, event, action, default.as_ref());
-        let fails = back || (action.is_none() && fails);
+        let lines = is_filled(&self.history);
+        let can_search = self.going.can_search(lines);
+        let (verdict, action) = judged(accepting, can_search, event, action, default.as_ref());
         let done = done(event, action.as_ref(), default.as_ref());
         let step = Step {
             event,
@@ -284,9 +323,8 @@ impl<H: LineEditorHost, L: History + LentLines, K: KeyPart, V: Validator> Prompt
             action: done,
         };
         follow_event(&mut self.keys, alloc, note, &step);
-        let lines = is_filled(&self.history);
         self.going
-            .follow(lines, event, before, after, done, back, fails, turn);
+            .follow(lines, event, before, after, done, verdict, fails, turn);
         self.menu.resize(event);
         self.screen.resize(event);
         action
@@ -303,9 +341,10 @@ impl<H: LineEditorHost, L: History + LentLines, K: KeyPart, V: Validator> Prompt
             IfOk result (λ elements. map element_view elements.items
             ≡ after_line K.keys H.rules v (cut_at line.now cursor)) }
     {
-        if self.going.searching && self.going.fails {
+        if self.going.fails {
             let style = CellAttributes::default();
-            return after_line_on(alloc, &self.screen, &self.rows, line, style, FAILING);
+            let text = failing_text(self.going.searching);
+            return after_line_on(alloc, &self.screen, &self.rows, line, style, text);
         }
         if !self.going.hides_hint()
             && !self.going.over
@@ -334,7 +373,7 @@ impl<H: LineEditorHost, L: History + LentLines, K: KeyPart, V: Validator> LineEd
       keys = K.state it.keys;
       hints = it.hints;
       stops_failing_searches = it.stops_failing_searches;
-      lacks = V.lacks it.validator;
+      judges = V.judges it.validator;
       style = it.menu;
       screen = screen_view it.screen;
       rows = rows_view it.rows;
@@ -360,13 +399,15 @@ impl<H: LineEditorHost, L: History + LentLines, K: KeyPart, V: Validator> LineEd
     }
 
     fn render_preview(&self, alloc: Global, line: &str) -> Result<Vec<OutputElement>, AllocError> {
-        if let Menu::Open(menu) = &self.going.menu {
-            return menu_page(alloc, self.menu, &menu.candidates, menu.chosen);
-        }
         if self.going.kept
-            && let Some(text) = self.validator.lack(alloc, line)?
+            && let Validation::Incomplete(text) | Validation::Invalid(text) = self
+                .validator
+                .validate(alloc, line)?
         {
             return plain_element(alloc, text.as_str());
+        }
+        if let Menu::Open(menu) = &self.going.menu {
+            return menu_page(alloc, self.menu, &menu.candidates, menu.chosen);
         }
         let elements = self.host.render_preview(alloc, line)?;
         if !elements.is_empty() {
@@ -375,7 +416,8 @@ impl<H: LineEditorHost, L: History + LentLines, K: KeyPart, V: Validator> LineEd
         if self.hints == Hints::Under
             && let Some(rest) = history_hint(&self.history, line)
         {
-            return plain_element(alloc, rest);
+            let row = hint_row(alloc, rest)?;
+            return plain_element(alloc, row.as_str());
         }
         Ok(elements)
     }
@@ -417,17 +459,20 @@ impl<H: LineEditorHost, L: History + LentLines, K: KeyPart, V: Validator> LineEd
         let default = default_action(alloc, event)?;
         let line = self.going.comes_back.as_ref().unwrap_or(editor);
         let before = line.try_clone(alloc)?;
-        let keeps = self.keeps(alloc, before.get_line())?;
+        let accepting = self.accepting(alloc, before.get_line())?;
         let key = default.as_ref();
-        let fails = self.fails_after(alloc, key, &before)?;
         let edit = self.edit_at(alloc, event, key, &before)?;
+        let fails = self.fails_after(alloc, chosen::<K>(event, &edit, key), &before)?;
         let begun = self.begun(alloc, key, &before)?;
         let turn = self.going.menu.turn(event, key, begun);
         let original = self.going.menu.line_of(alloc, turn.as_ref())?;
         self.keys.prepare(alloc, &before)?;
         let own = self.ask_host(alloc, event, &before, editor)?;
+        let fails = failing_by(&own, accepting, fails);
         let answer = answered::<K>(&self.going.menu, own, edit, original, turn, editor);
-        Ok(self.settle(alloc, event, default, before, editor, answer, keeps, fails))
+        Ok(self.settle(
+            alloc, event, default, before, editor, answer, accepting, fails,
+        ))
     }
 
     ghost plain_answers = { no_plain_left };

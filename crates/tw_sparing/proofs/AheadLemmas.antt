@@ -1,11 +1,11 @@
 -- What is drawn ahead of what a terminal shows.
-use Rattle.std.proofs.Common.{◌≡◌, ◌≤◌, ℕ, Bool, true, false, Option, Some, None, List, [], ◌∷◌, ◌++◌, ap, subst, ◌∙◌, sym, refl, append-nil}
+use Rattle.std.proofs.Common.{◌≡◌, ◌≤◌, ℕ, Bool, true, false, Option, Some, None, List, [], ◌∷◌, ◌++◌, ap, subst, ◌∙◌, sym, refl, inl, inr, ◌⊎◌, append-nil}
 use Rattle.tw_surface.specs.ChangeView.{Batch}
 use Rattle.tw_terminal.specs.declared.terminal.ScreenSize.{ScreenSize}
 use Rattle.tw_ansi.specs.declared.encode.Encoder.{Encoder}
 use Rattle.tw_ansi.specs.Encoding.{terse_batch}
 use Rattle.tw_sparing.specs.declared.shown.Shown.{Shown}
-use Rattle.tw_sparing.specs.Shown.{changes_below, gone_rows, left_behind, sent_for, IsDrawnAfter, IsFromStart, IsKnownAfter, IsPlayed, KeepsAbove}
+use Rattle.tw_sparing.specs.Shown.{changes_below, gone_rows, left_behind, sent_for, IsDrawnAfter, IsFromStart, IsKnownAfter, IsPlayed, IsStillKnown, KeepsAbove}
 use Rattle.tw_sparing.specs.KnownRuns.{sent_for_all}
 use Rattle.tw_sparing.specs.SparingRuns.{AreKnownSince}
 use Rattle.tw_sparing.specs.Ahead.{AheadView, AreAhead, IsDrawnBetween, IsJoined, ahead_view, all_changes, changes_among, group_kept, groups_with, joined_group, latest_known, leaves_sight, sent_ahead}
@@ -85,37 +85,61 @@ module _ (size : ScreenSize) where
     above_ahead top at joined =
         subst (λ n. KeepsAbove n shown.screen then.screen) (sym at) (subst (λ v. IsJoined batch v (Some then)) (sym there) (subst (λ x. IsJoined batch ahead x) is_next joined)).1.2
 
-  groups_at : (is_joined : Bool) (a b next : Option Shown) (kept batch : Batch) (e : Encoder) → AreAhead size a b kept
+  groups_at : (is_joined : Bool) (a b next left : Option Shown) (kept batch : Batch) (e : Encoder) → AreAhead size a b kept
       → IsKnownAfter size.cols size.rows batch (latest_known (ahead_view size a b kept)) next → IsFromStart e.x batch (latest_known (ahead_view size a b kept)) next
-      → (is_joined ≡ true → IsJoined batch (ahead_view size a b kept) next)
-      → AreKnownSince size a e (groups_with is_joined batch (ahead_view size a b kept) next)
-  groups_at true None b next kept batch e are known start joined = absurd (joined refl).1
-  groups_at true (Some shown) b next kept batch e are known start joined =
-      (between_known size.cols size.rows (changes_among (group_kept b kept) ++ batch) (Some shown) next (joined refl).1, tt, tt)
-  groups_at false a None next kept batch e are known start joined = (known, start, tt)
-  groups_at false None (Some drawn) next kept batch e are known start joined = absurd are
-  groups_at false (Some shown) (Some drawn) next kept batch e are known start joined = (drawn_known size.cols size.rows kept shown drawn are, tt, (known, tt, tt))
+      → (is_joined ≡ true → IsJoined batch (ahead_view size a b kept) next) → IsStillKnown next left
+      → AreKnownSince size a e (groups_with is_joined batch (ahead_view size a b kept) next left)
+  groups_at true None b next left kept batch e are known start joined still = absurd (joined refl).1
+  groups_at true (Some shown) b next left kept batch e are known start joined still =
+      (between_known size.cols size.rows (changes_among (group_kept b kept) ++ batch) (Some shown) next (joined refl).1, tt, still, tt)
+  groups_at false a None next left kept batch e are known start joined still = (known, start, still, tt)
+  groups_at false None (Some drawn) next left kept batch e are known start joined still = absurd are
+  groups_at false (Some shown) (Some drawn) next left kept batch e are known start joined still =
+      (drawn_known size.cols size.rows kept shown drawn are, tt, inl refl, (known, tt, still, tt))
 
   -- the groups that are sent are known, each after the one before
-  pub groups_ahead : (is_joined : Bool) (ahead : AheadView) (a b next : Option Shown) (kept batch : Batch) (e : Encoder) → ahead_view size a b kept ≡ ahead → AreAhead size a b kept
-      → IsKnownAfter size.cols size.rows batch (latest_known ahead) next → IsFromStart e.x batch (latest_known ahead) next → (is_joined ≡ true → IsJoined batch ahead next)
-      → AreKnownSince ahead.size ahead.shown e (groups_with is_joined batch ahead next)
-  groups_ahead is_joined ahead a b next kept batch e is are known start joined =
-      subst (λ (v : AheadView). AreKnownSince v.size v.shown e (groups_with is_joined batch v next)) is
-      (groups_at is_joined a b next kept batch e are (subst (λ (v : AheadView). IsKnownAfter size.cols size.rows batch (latest_known v) next) (sym is) known)
-      (subst (λ (v : AheadView). IsFromStart e.x batch (latest_known v) next) (sym is) start) (λ yes. subst (λ v. IsJoined batch v next) (sym is) (joined yes)))
+  pub groups_ahead : (is_joined : Bool) (ahead : AheadView) (a b next left : Option Shown) (kept batch : Batch) (e : Encoder) → ahead_view size a b kept ≡ ahead → AreAhead size a b kept
+      → IsKnownAfter size.cols size.rows batch (latest_known ahead) next → IsFromStart e.x batch (latest_known ahead) next → (is_joined ≡ true → IsJoined batch ahead next) → IsStillKnown next left
+      → AreKnownSince ahead.size ahead.shown e (groups_with is_joined batch ahead next left)
+  groups_ahead is_joined ahead a b next left kept batch e is are known start joined still =
+      subst (λ (v : AheadView). AreKnownSince v.size v.shown e (groups_with is_joined batch v next left)) is
+      (groups_at is_joined a b next left kept batch e are (subst (λ (v : AheadView). IsKnownAfter size.cols size.rows batch (latest_known v) next) (sym is) known)
+      (subst (λ (v : AheadView). IsFromStart e.x batch (latest_known v) next) (sym is) start) (λ yes. subst (λ v. IsJoined batch v next) (sym is) (joined yes)) still)
+
+  kept_at : (a b : Option Shown) (kept : Batch) (e : Encoder) → AreAhead size a b kept → AreKnownSince size a e (group_kept b kept)
+  kept_at a None kept e are = tt
+  kept_at None (Some drawn) kept e are = absurd are
+  kept_at (Some shown) (Some drawn) kept e are = (drawn_known size.cols size.rows kept shown drawn are, tt, inl refl, tt)
+
+  -- what is kept back is known
+  pub kept_ahead : (ahead : AheadView) (a b : Option Shown) (kept : Batch) (e : Encoder) → ahead_view size a b kept ≡ ahead → AreAhead size a b kept → AreKnownSince ahead.size ahead.shown e ahead.kept
+  kept_ahead ahead a b kept e is are = subst (λ (v : AheadView). AreKnownSince v.size v.shown e v.kept) is (kept_at a b kept e are)
+
+  -- where nothing is shown, or nothing known next, no difference takes all
+  pub not_joined : (is_joined : Bool) (ahead : AheadView) (a b next : Option Shown) (kept batch : Batch) → ahead_view size a b kept ≡ ahead → (is_joined ≡ true → IsJoined batch ahead next)
+      → (a ≡ None) ⊎ (next ≡ None) → is_joined ≡ false
+  not_joined false ahead a b next kept batch is joined none = refl
+  not_joined true ahead a b next kept batch is joined (inl none) =
+      let shown : ahead.shown ≡ None = sym (ap (λ (v : AheadView). v.shown) is) ∙ none in
+      absurd (subst (λ x. IsDrawnBetween ahead.size.rows (changes_among ahead.kept ++ batch) x next) shown (joined refl).1)
+  not_joined true ahead a b next kept batch is joined (inr none) =
+      absurd (none_drawn ahead.shown (subst (λ x. IsDrawnBetween ahead.size.rows (changes_among ahead.kept ++ batch) ahead.shown x) none (joined refl).1))
+    where
+      none_drawn : (x : Option Shown) → IsDrawnBetween ahead.size.rows (changes_among ahead.kept ++ batch) x None → ⊥
+      none_drawn None drawn = drawn
+      none_drawn (Some shown) drawn = drawn
 
   -- ---- what is sent for what was drawn
 
   -- what is sent for one group
-  abbrev IsSentAlone : Batch → Shown → Shown → Encoder → Type 0
-  IsSentAlone batch old new e =
-      let alone = sent_for_all size.rows (Some old) (record { batch = batch; known = Some new } ∷ []) e in
+  abbrev IsSentAlone : Batch → Shown → Shown → Option Shown → Encoder → Type 0
+  IsSentAlone batch old new left e =
+      let alone = sent_for_all size.rows (Some old) (record { batch = batch; drawn = Some new; known = left } ∷ []) e in
       let sent = terse_batch (changes_below (gone_rows size.rows old new) (left_behind size.rows new) old new) e in
       (alone.bytes ≡ sent.bytes) × (alone.next ≡ sent.next)
 
-  group_sent : (batch : Batch) (old new : Shown) (e : Encoder) → IsSentAlone batch old new e
-  group_sent batch old new e = (append-nil (sent_for size.rows batch (Some old) (Some new) e).bytes, refl)
+  group_sent : (batch : Batch) (old new : Shown) (left : Option Shown) (e : Encoder) → IsSentAlone batch old new left e
+  group_sent batch old new left e = (append-nil (sent_for size.rows batch (Some old) (Some new) e).bytes, refl)
 
   -- for what is kept back
   pub kept_sent : (ahead : AheadView) (a b : Option Shown) (kept : Batch) (shown drawn : Shown) (e : Encoder) → ahead_view size a b kept ≡ ahead → a ≡ Some shown → b ≡ Some drawn
@@ -126,19 +150,19 @@ module _ (size : ScreenSize) where
       subst (λ x. ahead_view size (Some shown) x kept ≡ ahead) is_drawn (subst (λ x. ahead_view size x b kept ≡ ahead) is_shown is) in
       let sent = terse_batch (changes_below (gone_rows size.rows shown drawn) (left_behind size.rows drawn) shown drawn) e in
       subst (λ v. ((sent_ahead v e).bytes ≡ sent.bytes) × ((sent_ahead v e).next ≡ sent.next)) there
-      (group_sent kept shown drawn e)
+      (group_sent kept shown drawn (Some drawn) e)
 
   -- and for all that one difference takes
-  pub joined_sent : (ahead : AheadView) (a b next : Option Shown) (kept batch : Batch) (shown then : Shown) (e : Encoder) → ahead_view size a b kept ≡ ahead → a ≡ Some shown → next ≡ Some then
-      → let all = sent_for_all ahead.size.rows ahead.shown (groups_with true batch ahead next) e in
+  pub joined_sent : (ahead : AheadView) (a b next left : Option Shown) (kept batch : Batch) (shown then : Shown) (e : Encoder) → ahead_view size a b kept ≡ ahead → a ≡ Some shown → next ≡ Some then
+      → let all = sent_for_all ahead.size.rows ahead.shown (groups_with true batch ahead next left) e in
       let sent = terse_batch (changes_below (gone_rows size.rows shown then) (left_behind size.rows then) shown then) e in
       (all.bytes ≡ sent.bytes) × (all.next ≡ sent.next)
-  joined_sent ahead a b next kept batch shown then e is is_shown is_next =
+  joined_sent ahead a b next left kept batch shown then e is is_shown is_next =
       let there : ahead_view size (Some shown) b kept ≡ ahead = subst (λ x. ahead_view size x b kept ≡ ahead) is_shown is in
       let sent = terse_batch (changes_below (gone_rows size.rows shown then) (left_behind size.rows then) shown then) e in
-      let same = subst (λ (v : AheadView). let all = sent_for_all v.size.rows v.shown (groups_with true batch v (Some then)) e in (all.bytes ≡ sent.bytes) × (all.next ≡ sent.next)) there
-      (group_sent (changes_among (group_kept b kept) ++ batch) shown then e) in
-      subst (λ x. let all = sent_for_all ahead.size.rows ahead.shown (groups_with true batch ahead x) e in (all.bytes ≡ sent.bytes) × (all.next ≡ sent.next)) (sym is_next) same
+      let same = subst (λ (v : AheadView). let all = sent_for_all v.size.rows v.shown (groups_with true batch v (Some then) left) e in (all.bytes ≡ sent.bytes) × (all.next ≡ sent.next)) there
+      (group_sent (changes_among (group_kept b kept) ++ batch) shown then left e) in
+      subst (λ x. let all = sent_for_all ahead.size.rows ahead.shown (groups_with true batch ahead x left) e in (all.bytes ≡ sent.bytes) × (all.next ≡ sent.next)) (sym is_next) same
 
   joined_fits_at : (b : Option Shown) (kept batch : Batch) (shown then : Shown) → IsJoined batch (ahead_view size (Some shown) b kept) (Some then)
       → (shown.screen.width ≡ then.screen.width) × (gone_rows size.rows shown then ≤ shown.screen.row)
@@ -175,16 +199,16 @@ module _ (size : ScreenSize) where
       let here : IsJoined batch (ahead_view size a b (all_changes kept)) next = subst (λ v. IsJoined batch v next) (sym is) joined in
       more_drawn a next (changes_among (group_kept b (all_changes kept)) ++ batch) (all_changes more) (more_changes a b batch kept more are adds) here.1
 
-  more_group : (a next : Option Shown) (xs ys : Batch) → xs ≡ ys → IsDrawnBetween size.rows xs a next → group_kept next ys ≡ record { batch = xs; known = next } ∷ []
+  more_group : (a next : Option Shown) (xs ys : Batch) → xs ≡ ys → IsDrawnBetween size.rows xs a next → group_kept next ys ≡ record { batch = xs; drawn = next; known = next } ∷ []
   more_group None next xs ys is drawn = absurd drawn
   more_group (Some shown) None xs ys is drawn = absurd drawn
   more_group (Some shown) (Some then) xs ys is drawn = ap (λ v. group_kept (Some then) v) (sym is)
 
   pub still_viewed : (ahead : AheadView) (a b next : Option Shown) (batch : Batch) (kept more : List Batch) → ahead_view size a b (all_changes kept) ≡ ahead
       → AreAhead size a b (all_changes kept) → more ≡ kept ++ batch ∷ [] → IsJoined batch ahead next
-      → ahead_view size a next (all_changes more) ≡ record ahead { kept = joined_group batch ahead next ∷ [] }
+      → ahead_view size a next (all_changes more) ≡ record ahead { kept = joined_group batch ahead next next ∷ [] }
   still_viewed ahead a b next batch kept more is are adds joined =
       let here : IsJoined batch (ahead_view size a b (all_changes kept)) next = subst (λ v. IsJoined batch v next) (sym is) joined in
-      subst (λ (v : AheadView). ahead_view size a next (all_changes more) ≡ record v { kept = joined_group batch v next ∷ [] }) is
+      subst (λ (v : AheadView). ahead_view size a next (all_changes more) ≡ record v { kept = joined_group batch v next next ∷ [] }) is
       (ap (λ groups. record { size = size; shown = a; kept = groups })
       (more_group a next (changes_among (group_kept b (all_changes kept)) ++ batch) (all_changes more) (more_changes a b batch kept more are adds) here.1))

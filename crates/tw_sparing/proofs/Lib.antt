@@ -1,5 +1,6 @@
 pub mod PlayedBatches
 pub mod CutScreens
+pub mod EndedBatches
 pub mod TypedPictures
 pub mod SpannedPictures
 pub mod PlayedPictures
@@ -9,6 +10,7 @@ pub mod SendableBatches
 pub mod FirstScreens
 pub mod KnownScreens
 pub mod ShortBatches
+pub mod LeftScreens
 pub mod RunLemmas
 pub mod SparingDeedLemmas
 pub mod GroupLemmas

@@ -2,7 +2,7 @@
 use Rattle.std.proofs.Common.{◌≡◌, ◌≢◌, ◌≤◌, ℕ, List, [], ◌∷◌, ◌++◌, Option, length, refl, sym, ap, ◌∙◌, subst, append_assoc, append-nil, inl, inr, arith}
 use Rattle.std.specs.Io.KnownBytes.{Appends}
 use Rattle.tw_surface.specs.ChangeView.{Batch}
-use Rattle.tw_terminal.specs.TerminalState.{usize_max}
+use Rattle.tw_terminal.specs.TerminalState.{TerminalState, usize_max}
 use Rattle.tw_terminal.specs.Uses.{Took, Refused, Other, Uses}
 use Rattle.tw_lineedit.proofs.FailureLemmas.{le_count, rose_once}
 use Rattle.tw_device.specs.Deeds.{Deed, Called, Sized, Said, sizes_by, texts_by}
@@ -12,18 +12,30 @@ use Rattle.tw_sparing.specs.KnownRuns.{KnownBatch, last_known, sent_for_all}
 use Rattle.tw_sparing.specs.SparingRuns.{AreKnownSince}
 use Rattle.tw_sparing.specs.Ahead.{AheadView, all_changes, changes_among, groups_with}
 use Rattle.tw_sparing.specs.Terminal.{patient_state}
-use Rattle.tw_sparing.specs.PatientDeeds.{DoesPatiently, IsTakenPatiently, KeepsBack, RestsPatiently, SendsGroups}
+use Rattle.tw_sparing.specs.PatientDeeds.{DoesPatiently, FailsPatiently, IsTakenPatiently, KeepsBack, RestsPatiently, SendsGroups}
 use Rattle.tw_sparing.specs.PatientRuns.{IsSentPatiently, PatientlyLedIsSent, SettledIsSent}
 use Rattle.tw_sparing.proofs.GroupLemmas.{all_changes-both, changes_among-both, changes_among-with, known_since-both, last_known-both, sent_bytes-both, sent_next-both}
 
 module _ {W : Type 0} (contents : W → Option (List ℕ)) where
+  -- what a state counts
+  counted : {s : TerminalState} (it : PatientTerminal W) → patient_state it ≡ s → it.sent.failures ≡ s.failures
+  counted it is = ap (λ (t : TerminalState). t.failures) is
+
+  counted_on : {s : TerminalState} (old new : PatientTerminal W) → patient_state new ≡ s → old.sent.failures ≤ s.failures → old.sent.failures ≤ new.sent.failures
+  counted_on old new is more = rw (counted new is) more
+
   -- no deed lowers the count of failures
   counts_on : (deed : Deed) (old new : PatientTerminal W) → DoesPatiently contents old new deed → old.sent.failures ≤ new.sent.failures
-  counts_on (Called (Took batch)) old new does = rw does.failures (omega arith)
-  counts_on (Called Refused) old new does = rw does.failures (le_count old.sent.failures)
-  counts_on (Called Other) old new does = does.failures
-  counts_on (Sized size) old new does = rw does.failures (omega arith)
-  counts_on (Said text) old new does = rw does.failures (omega arith)
+  counts_on (Called (Took batch)) old new does = counted_on old new does.state (omega arith)
+  counts_on (Called Refused) old new does = counted_on old new does.state (le_count old.sent.failures)
+  counts_on (Called Other) old new (inl rests) = counted_on old new (ap patient_state rests) (omega arith)
+  counts_on (Called Other) old new (inr (inl flushes)) = elim flushes.state [
+    | inl done ↦ counted_on old new done (omega arith)
+    | inr refused ↦ counted_on old new refused (le_count old.sent.failures)
+  ]
+  counts_on (Called Other) old new (inr (inr fails)) = counted_on old new fails.state (le_count old.sent.failures)
+  counts_on (Sized size) old new does = counted_on old new does.state (omega arith)
+  counts_on (Said text) old new does = counted_on old new does.state (omega arith)
 
   uses_count_on : (deeds : List Deed) (old new : PatientTerminal W) → Uses (DoesPatiently contents) deeds old new → old.sent.failures ≤ new.sent.failures
   uses_count_on [] old new same = rw same (omega arith)
@@ -122,21 +134,45 @@ module _ {W : Type 0} (contents : W → Option (List ℕ)) where
       → IsSentPatiently contents groups more between new → (all : List KnownBatch) × IsSentPatiently contents all (batch ∷ more) old new
   taken_then batch groups more old between new (inl keeps) batches later = (groups, kept_then batch groups more old between new keeps batches later)
   taken_then batch groups more old between new (inr sends) batches later =
-      let first : List KnownBatch = groups_with sends.is_joined batch old.ahead between.ahead.shown in (
+      let first : List KnownBatch = groups_with sends.is_joined batch old.ahead sends.drawn between.ahead.shown in (
         first ++ groups,
-        groups_then batch first groups more old between new sends.sends (changes_among-with sends.is_joined batch old.ahead between.ahead.shown) batches later,
+        groups_then batch first groups more old between new sends.sends (changes_among-with sends.is_joined batch old.ahead sends.drawn between.ahead.shown) batches later,
       )
 
-  -- nothing is sent, and then batches are taken
+  -- nothing is done, and then batches are taken
   rests_then : (groups : List KnownBatch) (more : List Batch) (old between new : PatientTerminal W) → RestsPatiently contents old between
       → IsSentPatiently contents groups more between new → IsSentPatiently contents groups more old new
   rests_then groups more old between new rests later =
-      sent_after [] groups [] more old between new tt rests.bytes rests.encoder
-      (ap (λ (ahead : AheadView). ahead.size) rests.ahead)
-      (ap (λ (ahead : AheadView). ahead.shown) rests.ahead)
-      (rests.batches ∙ sym (append-nil (patient_state old).batches))
-      (append-nil (changes_among old.ahead.kept) ∙ sym (ap (λ (ahead : AheadView). changes_among ahead.kept) rests.ahead))
+      sent_after [] groups [] more old between new tt
+      (subst (λ w. Appends (contents old.writer) (contents w) []) (sym (ap (λ (it : PatientTerminal W). it.writer) rests)) (appends_nothing (contents old.writer)))
+      (ap (λ (it : PatientTerminal W). it.sent.encoder) rests)
+      (ap (λ (it : PatientTerminal W). it.ahead.size) rests)
+      (ap (λ (it : PatientTerminal W). it.ahead.shown) rests)
+      (ap (λ (it : PatientTerminal W). (patient_state it).batches) rests ∙ sym (append-nil (patient_state old).batches))
+      (append-nil (changes_among old.ahead.kept) ∙ sym (ap (λ (it : PatientTerminal W). changes_among it.ahead.kept) rests))
       later
+
+  -- what is kept back is sent, and then batches are taken
+  flushes_then : (groups : List KnownBatch) (more : List Batch) (old between new : PatientTerminal W) → SendsGroups contents old.ahead.kept old between
+      → (patient_state between).batches ≡ (patient_state old).batches
+      → IsSentPatiently contents groups more between new → IsSentPatiently contents (old.ahead.kept ++ groups) more old new
+  flushes_then groups more old between new sends batches later =
+      sent_after old.ahead.kept groups [] more old between new sends.known sends.bytes sends.encoder
+      (ap (λ (ahead : AheadView). ahead.size) sends.ahead)
+      (ap (λ (ahead : AheadView). ahead.shown) sends.ahead)
+      (batches ∙ sym (append-nil (patient_state old).batches))
+      (ap (λ xs. changes_among old.ahead.kept ++ xs) (sym (ap (λ (ahead : AheadView). changes_among ahead.kept) sends.ahead)))
+      later
+
+  -- a refusal is counted
+  not_refused : (deeds : List Deed) (old between new : PatientTerminal W) → FailsPatiently contents old between → Uses (DoesPatiently contents) deeds between new
+      → new.sent.failures ≡ old.sent.failures → old.sent.failures ≢ usize_max → ⊥
+  not_refused deeds old between new fails uses kept below =
+      let same = stays_on (Called Refused) deeds old between new fails uses kept in
+      elim (rose_once old.sent.failures between.sent.failures (counted between fails.state)) [
+        | inl rises ↦ (let stays : between.sent.failures ≡ old.sent.failures = same.1 in omega arith)
+        | inr full ↦ below full
+      ]
 
   -- deeds that give no size and send no text, of which no failure was counted
   all_sent_ahead : (deeds : List Deed) (old new : PatientTerminal W) → Uses (DoesPatiently contents) deeds old new → new.sent.failures ≡ old.sent.failures
@@ -146,18 +182,24 @@ module _ {W : Type 0} (contents : W → Option (List ℕ)) where
   all_sent_ahead (Called (Took batch) ∷ deeds) old new (between, does, uses) kept below sizes texts =
       let same = stays_on (Called (Took batch)) deeds old between new does uses kept in
       let later = all_sent_ahead deeds between new uses same.0 (λ full. below (sym same.1 ∙ full)) sizes texts in
-      let all = taken_then batch later.0 later.1 old between new does.taken does.batches later.2 in
+      let all = taken_then batch later.0 later.1 old between new does.taken (ap (λ (t : TerminalState). t.batches) does.state) later.2 in
       (all.0, batch ∷ later.1, all.1)
   all_sent_ahead (Called Refused ∷ deeds) old new (between, does, uses) kept below sizes texts =
-      let same = stays_on (Called Refused) deeds old between new does uses kept in
-      elim (rose_once old.sent.failures between.sent.failures does.failures) [
-        | inl rises ↦ absurd (let stays : between.sent.failures ≡ old.sent.failures = same.1 in omega arith)
-        | inr full ↦ absurd (below full)
-      ]
-  all_sent_ahead (Called Other ∷ deeds) old new (between, does, uses) kept below sizes texts =
-      let same = stays_on (Called Other) deeds old between new does uses kept in
+      absurd (not_refused deeds old between new does uses kept below)
+  all_sent_ahead (Called Other ∷ deeds) old new (between, inl rests, uses) kept below sizes texts =
+      let same = stays_on (Called Other) deeds old between new (inl rests) uses kept in
       let later = all_sent_ahead deeds between new uses same.0 (λ full. below (sym same.1 ∙ full)) sizes texts in
-      (later.0, later.1, rests_then later.0 later.1 old between new does later.2)
+      (later.0, later.1, rests_then later.0 later.1 old between new rests later.2)
+  all_sent_ahead (Called Other ∷ deeds) old new (between, inr (inl flushes), uses) kept below sizes texts =
+      let same = stays_on (Called Other) deeds old between new (inr (inl flushes)) uses kept in
+      let later = all_sent_ahead deeds between new uses same.0 (λ full. below (sym same.1 ∙ full)) sizes texts in
+      let batches : (patient_state between).batches ≡ (patient_state old).batches = elim flushes.state [
+        | inl done ↦ ap (λ (t : TerminalState). t.batches) done
+        | inr refused ↦ ap (λ (t : TerminalState). t.batches) refused
+      ] in
+      (old.ahead.kept ++ later.0, later.1, flushes_then later.0 later.1 old between new flushes.sends batches later.2)
+  all_sent_ahead (Called Other ∷ deeds) old new (between, inr (inr fails), uses) kept below sizes texts =
+      absurd (not_refused deeds old between new fails uses kept below)
   all_sent_ahead (Sized size ∷ deeds) old new uses kept below sizes texts =
       absurd (let some : length (size ∷ sizes_by deeds) ≡ 0 = ap length sizes in omega arith)
   all_sent_ahead (Said text ∷ deeds) old new uses kept below sizes texts =

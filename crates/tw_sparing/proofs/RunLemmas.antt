@@ -26,6 +26,7 @@ use Rattle.tw_sparing.specs.KnownRuns.{KnownBatch, batches_among, last_known, se
 use Rattle.tw_sparing.proofs.KnownScreens.{known_is_shown}
 use Rattle.tw_sparing.proofs.FirstScreens.{first_is_known}
 use Rattle.tw_sparing.proofs.SendableBatches.{follows}
+use Rattle.tw_sparing.proofs.LeftScreens.{picture_of, still_shown}
 
 -- ---- the attributes
 
@@ -107,11 +108,13 @@ module _ (h w : ℕ) where
       (play_sized (Some h) false styled w e.attributes (sized_at w (batches_among calls)) p) (last_known old calls)
   runs [] old e t p some small known a = a
   runs (call ∷ more) old e t p some small known a =
-      let sent : Sent = sent_for h call.batch old call.known e in
+      let sent : Sent = sent_for h call.batch old call.drawn e in
       let drawn : PictureOf StyledCell = steps_on (Some h) w (strokes_of styled e.attributes call.batch) p in
-      let one = goes call.batch old call.known e t p some small known.0 known.1 a in
+      let one = goes call.batch old call.drawn e t p some small known.0 known.1 a in
       let rest : Sent = sent_for_all h call.known more sent.next in
-      let after = runs more call.known sent.next (receive_all styled h w sent.bytes t) drawn some small known.2 one.shown in
+      let then : EcmaScreen StyledCell = receive_all styled h w sent.bytes t in
+      let left = still_shown h w sent.next then drawn call.drawn call.known known.2 one.shown in
+      let after = runs more call.known sent.next then drawn some small known.3 left in
       subst (λ u. IsShownAs h w rest.next u (play_sized (Some h) false styled w e.attributes (sized_at w (batches_among (call ∷ more))) p) (last_known call.known more))
       (sym (received styled h w sent.bytes rest.bytes t))
       (subst (λ a. IsShownAs h w rest.next (receive_all styled h w rest.bytes (receive_all styled h w sent.bytes t)) (play_sized (Some h) false styled w a (sized_at w (batches_among more)) drawn) (last_known call.known more))
@@ -128,10 +131,12 @@ module _ (h w : ℕ) where
       → AreKnown h w e p old calls → IsShownAs h w e t p old → (sent_for_all h old calls e).next.attributes ≡ kept_over e.attributes (batches_among calls)
   runs_keep [] old e t p some small known a = refl
   runs_keep (call ∷ more) old e t p some small known a =
-      let sent : Sent = sent_for h call.batch old call.known e in
+      let sent : Sent = sent_for h call.batch old call.drawn e in
       let drawn : PictureOf StyledCell = steps_on (Some h) w (strokes_of styled e.attributes call.batch) p in
-      let one = goes call.batch old call.known e t p some small known.0 known.1 a in
-      runs_keep more call.known sent.next (receive_all styled h w sent.bytes t) drawn some small known.2 one.shown
+      let one = goes call.batch old call.drawn e t p some small known.0 known.1 a in
+      let then : EcmaScreen StyledCell = receive_all styled h w sent.bytes t in
+      let left = still_shown h w sent.next then drawn call.drawn call.known known.2 one.shown in
+      runs_keep more call.known sent.next then drawn some small known.3 left
       ∙ ap (λ k. kept_over k (batches_among more)) one.attributes
 
   wholes_keep : (batches : List Batch) (f : Encoder) (p : PictureOf StyledCell) → AreAllSendable styled h w f batches p
@@ -140,10 +145,6 @@ module _ (h w : ℕ) where
   wholes_keep (batch ∷ more) f p fits =
       wholes_keep more (sent_batch batch f).next (steps_on (Some h) w (strokes_of styled f.attributes batch) p) fits.1
       ∙ ap (λ k. kept_over k more) (sym (keeps_all batch f p fits.0))
-
-  picture_of : (e : Encoder) (t : EcmaScreen StyledCell) (p : PictureOf StyledCell) (known : Option Shown) → IsShownAs h w e t p known → ShowsPicture styled h w e t p
-  picture_of e t p None a = a
-  picture_of e t p (Some shown) a = a.picture
 
   alike : (e f : Encoder) (t u : EcmaScreen StyledCell) (p : PictureOf StyledCell) → e.attributes ≡ f.attributes → ShowsPicture styled h w e t p → ShowsPicture styled h w f u p → IsAlike h w t u
   alike e f t u p same a b = record {
@@ -162,7 +163,7 @@ module _ (h w : ℕ) where
       let end : PictureOf StyledCell = play_sized (Some h) false styled w e.attributes (sized_at w (batches_among calls)) p in
       alike mine.next its.next (receive_all styled h w mine.bytes t) (receive_all styled h w its.bytes u) end
       (runs_keep calls old e t p some small known a ∙ ap (λ k. kept_over k (batches_among calls)) (sym same) ∙ sym (wholes_keep (batches_among calls) f p fits))
-      (picture_of mine.next (receive_all styled h w mine.bytes t) end (last_known old calls) (runs calls old e t p some small known a))
+      (picture_of h w mine.next (receive_all styled h w mine.bytes t) end (last_known old calls) (runs calls old e t p some small known a))
       (subst (λ k. ShowsPicture styled h w its.next (receive_all styled h w its.bytes u) (play_sized (Some h) false styled w k (sized_at w (batches_among calls)) p)) same
       (batches_are_shown styled h w (batches_among calls) f u p follows some small fits b))
 

@@ -1,5 +1,5 @@
 -- Deeds of a terminal that is sent what differs, one after the other, and what they send.
-use Rattle.std.proofs.Common.{◌≡◌, ◌≢◌, ◌≤◌, ℕ, List, [], ◌∷◌, ◌++◌, Option, length, refl, sym, ap, ◌∙◌, append_assoc, append-nil, inl, inr, arith}
+use Rattle.std.proofs.Common.{◌≡◌, ◌≢◌, ◌≤◌, ℕ, List, [], ◌∷◌, ◌++◌, Option, None, length, refl, sym, ap, ◌∙◌, append_assoc, append-nil, inl, inr, arith}
 use Rattle.tw_surface.specs.ChangeView.{Batch}
 use Rattle.tw_terminal.specs.TerminalState.{usize_max}
 use Rattle.tw_terminal.specs.Uses.{Took, Refused, Other, Uses}
@@ -18,7 +18,7 @@ use Rattle.tw_sparing.specs.Terminal.{sparing_state}
 module _ {W : Type 0} (contents : W → Option (List ℕ)) where
   -- no deed lowers the count of failures
   does_count : (deed : Deed) (old new : SparingTerminal W) → DoesSparingly contents old new deed → old.sent.failures ≤ new.sent.failures
-  does_count (Called (Took batch)) old new does = does.failures
+  does_count (Called (Took batch)) old new does = does.1.failures
   does_count (Called Refused) old new does = rw does.failures (le_count old.sent.failures)
   does_count (Called Other) old new does = does.failures
   does_count (Sized size) old new does = does.failures
@@ -55,7 +55,7 @@ module _ {W : Type 0} (contents : W → Option (List ℕ)) where
   known_at calls a b c known = rw (a, b, c) at known
 
   -- another call, and then batches
-  sent_other : (calls : List KnownBatch) (old between new : SparingTerminal W) → SendsSparingly contents (Called Other) old between
+  sent_other : (calls : List KnownBatch) (old between new : SparingTerminal W) → SendsSparingly contents (Called Other) None old between
       → IsSentSparingly contents calls between new → IsSentSparingly contents calls old new
   sent_other calls old between new sends later = record {
     batches = later.batches ∙ ap (λ batches. batches ++ batches_among calls) (sends.batches ∙ append-nil (sparing_state old).batches);
@@ -67,16 +67,16 @@ module _ {W : Type 0} (contents : W → Option (List ℕ)) where
   }
 
   -- a batch, and what is known after it
-  abbrev taken : Batch → SparingTerminal W → KnownBatch
-  taken batch between = record { batch = batch; known = between.shown }
+  abbrev taken : Batch → Option Shown → SparingTerminal W → KnownBatch
+  taken batch drawn between = record { batch = batch; drawn = drawn; known = between.shown }
 
   -- a batch, and then others
-  sent_batch_then : (batch : Batch) (calls : List KnownBatch) (old between new : SparingTerminal W) → SendsSparingly contents (Called (Took batch)) old between
-      → IsSentSparingly contents calls between new → IsSentSparingly contents (taken batch between ∷ calls) old new
-  sent_batch_then batch calls old between new sends later = record {
+  sent_batch_then : (batch : Batch) (drawn : Option Shown) (calls : List KnownBatch) (old between new : SparingTerminal W) → SendsSparingly contents (Called (Took batch)) drawn old between
+      → IsSentSparingly contents calls between new → IsSentSparingly contents (taken batch drawn between ∷ calls) old new
+  sent_batch_then batch drawn calls old between new sends later = record {
     batches = later.batches ∙ ap (λ batches. batches ++ batches_among calls) sends.batches
         ∙ append_assoc (sparing_state old).batches (batch ∷ []) (batches_among calls);
-    known = (sends.shown.0, sends.shown.1, known_at calls sends.size refl sends.known later.known);
+    known = (sends.shown.0, sends.shown.1, sends.shown.2, known_at calls sends.size refl sends.known later.known);
     bytes = appends_then (contents old.writer) (contents between.writer) (contents new.writer) _ _ sends.bytes
         (rw (sends.size, sends.known) at later.bytes);
     next = rw (sends.size, sends.known) at later.next;
@@ -87,10 +87,10 @@ module _ {W : Type 0} (contents : W → Option (List ℕ)) where
   all_sent : (deeds : List Deed) (old new : SparingTerminal W) → Uses (DoesSparingly contents) deeds old new → new.sent.failures ≡ old.sent.failures
       → old.sent.failures ≢ usize_max → sizes_by deeds ≡ [] → texts_by deeds ≡ [] → (calls : List KnownBatch) × IsSentSparingly contents calls old new
   all_sent [] old new same kept below sizes texts = ([], rw same (none_sent old))
-  all_sent (Called (Took batch) ∷ deeds) old new (between, does, uses) kept below sizes texts =
+  all_sent (Called (Took batch) ∷ deeds) old new (between, (drawn, does), uses) kept below sizes texts =
       let same = stays_later deeds old between new does.failures uses kept in
       let later = all_sent deeds between new uses same.0 (λ full. below (sym same.1 ∙ full)) sizes texts in
-      (taken batch between ∷ later.0, sent_batch_then batch later.0 old between new does later.1)
+      (taken batch drawn between ∷ later.0, sent_batch_then batch drawn later.0 old between new does later.1)
   all_sent (Called Refused ∷ deeds) old new (between, does, uses) kept below sizes texts =
       let same = stays_later deeds old between new (does_count (Called Refused) old between does) uses kept in
       elim (rose_once old.sent.failures between.sent.failures does.failures) [

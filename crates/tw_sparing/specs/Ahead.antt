@@ -35,7 +35,7 @@ latest_known ahead = last_known ahead.shown ahead.kept
 -- what is kept back, where something is drawn ahead
 abbrev pub group_kept : Option Shown → Batch → List KnownBatch
 group_kept None batch = []
-group_kept (Some drawn) batch = record { batch = batch; known = Some drawn } ∷ []
+group_kept (Some drawn) batch = record { batch = batch; drawn = Some drawn; known = Some drawn } ∷ []
 
 -- a terminal by what it shows, what is drawn ahead, and what was drawn since
 abbrev pub ahead_view : ScreenSize → Option Shown → Option Shown → Batch → AheadView
@@ -53,13 +53,13 @@ abbrev pub sent_ahead : AheadView → Encoder → Sent
 sent_ahead ahead e = sent_for_all ahead.size.rows ahead.shown ahead.kept e
 
 -- what is kept back and a batch after it, as one group
-abbrev pub joined_group : Batch → AheadView → Option Shown → KnownBatch
-joined_group batch ahead known = record { batch = changes_among ahead.kept ++ batch; known = known }
+abbrev pub joined_group : Batch → AheadView → Option Shown → Option Shown → KnownBatch
+joined_group batch ahead drawn known = record { batch = changes_among ahead.kept ++ batch; drawn = drawn; known = known }
 
 -- the groups that are sent with a batch: all in one, or what is kept back, and then the batch
-abbrev pub groups_with : Bool → Batch → AheadView → Option Shown → List KnownBatch
-groups_with true batch ahead known = joined_group batch ahead known ∷ []
-groups_with false batch ahead known = ahead.kept ++ record { batch = batch; known = known } ∷ []
+abbrev pub groups_with : Bool → Batch → AheadView → Option Shown → Option Shown → List KnownBatch
+groups_with true batch ahead drawn known = joined_group batch ahead drawn known ∷ []
+groups_with false batch ahead drawn known = ahead.kept ++ record { batch = batch; drawn = drawn; known = known } ∷ []
 
 -- a batch goes out of sight of what is known, where anything is known
 abbrev pub leaves_sight : ℕ → Option Shown → Batch → Bool
@@ -78,4 +78,4 @@ IsDrawnBetween rows batch (Some old) (Some new) = IsDrawnAfter rows batch old ne
 abbrev pub IsJoined : Batch → AheadView → Option Shown → Type 0
 IsJoined batch ahead known =
     (leaves_sight ahead.size.rows (latest_known ahead) batch ≡ false)
-    × IsDrawnBetween ahead.size.rows (joined_group batch ahead known).batch ahead.shown known
+    × IsDrawnBetween ahead.size.rows (changes_among ahead.kept ++ batch) ahead.shown known

@@ -14,19 +14,20 @@ use Rattle.tw_ansi.specs.EcmaPaintings.{AreAllSendable, sent_batches}
 use Rattle.tw_ansi.specs.EcmaScreen.{EcmaScreen, receive_all}
 use Rattle.tw_ansi.specs.EcmaTexts.{ShowsPicture}
 use Rattle.tw_sparing.specs.declared.shown.Shown.{Shown}
-use Rattle.tw_sparing.specs.Shown.{IsFromStart, IsKnownAfter, sent_for}
+use Rattle.tw_sparing.specs.Shown.{IsFromStart, IsKnownAfter, IsStillKnown, sent_for}
 use Rattle.tw_sparing.specs.ShownTerminals.{IsShownBy}
 
--- a batch, and what is known after it
+-- a batch, what is shown after it, as far as it is known, and what is still known of that before the next one
 pub record KnownBatch : Type 0 where
   pub batch : Batch
+  pub drawn : Option Shown
   pub known : Option Shown
 
 -- the batches alone
 abbrev pub batches_among : List KnownBatch → List Batch
 batches_among calls = map (λ call. call.batch) calls
 
--- what is known after all of them
+-- what is still known after all of them
 abbrev pub last_known : Option Shown → List KnownBatch → Option Shown
 last_known old [] = old
 last_known old (call ∷ more) = last_known call.known more
@@ -34,7 +35,7 @@ last_known old (call ∷ more) = last_known call.known more
 -- what is sent for them, one after the other
 abbrev pub sent_for_all : ℕ → Option Shown → List KnownBatch → Encoder → Sent
 sent_for_all rows old [] e = sends [] e
-sent_for_all rows old (call ∷ more) e = sent_then (sent_for rows call.batch old call.known e) (sent_for_all rows call.known more)
+sent_for_all rows old (call ∷ more) e = sent_then (sent_for rows call.batch old call.drawn e) (sent_for_all rows call.known more)
 
 -- a terminal shows a picture, in which what is known stands, where anything is known
 abbrev pub IsShownAs : ℕ → ℕ → Encoder → EcmaScreen StyledCell → PictureOf StyledCell → Option Shown → Type 0
@@ -52,9 +53,10 @@ CanBeSent h w e p batch (Some old) (Some new) = ⊤
 abbrev pub AreKnown : ℕ → ℕ → Encoder → PictureOf StyledCell → Option Shown → List KnownBatch → Type 0
 AreKnown h w e p old [] = ⊤
 AreKnown h w e p old (call ∷ more) =
-    IsKnownAfter w h call.batch old call.known
-    × CanBeSent h w e p call.batch old call.known
-    × AreKnown h w (sent_for h call.batch old call.known e).next (steps_on (Some h) w (strokes_of styled e.attributes call.batch) p) call.known more
+    IsKnownAfter w h call.batch old call.drawn
+    × CanBeSent h w e p call.batch old call.drawn
+    × IsStillKnown call.drawn call.known
+    × AreKnown h w (sent_for h call.batch old call.drawn e).next (steps_on (Some h) w (strokes_of styled e.attributes call.batch) p) call.known more
 
 -- A terminal that shows a picture, and is sent what is sent for batches, one after the other, shows the picture on
 -- which all of them were drawn; and what is known at the end stands in it.

@@ -1,8 +1,9 @@
 -- What a terminal shows, as far as it is known.
-use Rattle.std.specs.Prelude.{◌≡◌, ◌≤◌, ◌<◌, ◌+◌, ◌-◌, ◌⊎◌, ℕ, zero, pos, negsuc, ltb, max, Bool, true, false, not, Option, Some, None, [], ◌∷◌, ⊤, leb, if◌then◌else◌}
+use Rattle.std.specs.Prelude.{◌≡◌, ◌≤◌, ◌<◌, ◌+◌, ◌-◌, ◌⊎◌, ℕ, zero, pos, negsuc, ltb, max, Bool, true, false, not, Option, Some, None, [], ◌∷◌, ◌++◌, ⊤, leb, if◌then◌else◌}
 use Rattle.std.specs.List.{list_all}
 use Rattle.tw_surface.specs.declared.change.Position.{Position}
 use Rattle.tw_surface.specs.declared.change.Position.TheVariants.{Absolute, Relative}
+use Rattle.tw_surface.specs.declared.color.ColorAttribute.{ColorAttribute}
 use Rattle.tw_surface.specs.Characters.{is_plain}
 use Rattle.tw_surface.specs.Defaults.{default_color}
 use Rattle.tw_surface.specs.ChangeView.{ChangeView, Batch}
@@ -33,6 +34,16 @@ left_behind rows shown = shown.reached - rows
 -- how many of the rows in sight stand above the cursor
 abbrev pub rows_above : ℕ → Shown → ℕ
 rows_above rows shown = shown.screen.row - left_behind rows shown
+
+-- what is known of the rows from the cursor's on
+abbrev pub from_cursor : Shown → Shown
+from_cursor shown = record { screen = without_rows shown.screen.row shown.screen; reached = shown.reached - shown.screen.row }
+
+-- what is still known of what is shown: all of it, or the rows from the cursor's on, or nothing
+abbrev pub IsStillKnown : Option Shown → Option Shown → Type 0
+IsStillKnown shown None = ⊤
+IsStillKnown None (Some left) = ⊥
+IsStillKnown (Some shown) (Some left) = (left ≡ shown) ⊎ (left ≡ from_cursor shown)
 
 -- a screen of no more rows than can be told, on a terminal of no more, with its cursor in one of its columns and in one
 -- of the last rows that it has reached, and printable characters under colours by bytes in its cells
@@ -130,6 +141,11 @@ abbrev pub IsFromStart : ℕ → Batch → Option Shown → Option Shown → Typ
 IsFromStart x batch None (Some new) = (x ≡ 0) ⊎ LeadsToStart batch
 IsFromStart x batch None None = ⊤
 IsFromStart x batch (Some old) new = ⊤
+
+-- a batch that leaves the cursor in column 0: it clears the screen last, or leads there and empties what stands below
+abbrev pub EndsAtStart : Batch → Type 0
+EndsAtStart batch = (before : Batch) × (color : ColorAttribute)
+    × ((batch ≡ before ++ ClearScreen color ∷ []) ⊎ ((y : Position) × (batch ≡ before ++ CursorPosition (Absolute 0) y ∷ ClearToEndOfScreen color ∷ [])))
 
 -- ---- what is known after it
 

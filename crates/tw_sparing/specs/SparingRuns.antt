@@ -9,7 +9,7 @@ use Rattle.tw_device.specs.Deeds.{IsLedBy, sizes_in}
 use Rattle.tw_sparing.specs.declared.shown.Shown.{Shown}
 use Rattle.tw_sparing.specs.declared.terminal.SparingTerminal.{SparingTerminal}
 use Rattle.tw_sparing.specs.KnownRuns.{KnownBatch, batches_among, last_known, sent_for_all}
-use Rattle.tw_sparing.specs.Shown.{IsFromStart, IsKnownAfter, sent_for}
+use Rattle.tw_sparing.specs.Shown.{IsFromStart, IsKnownAfter, IsStillKnown, sent_for}
 use Rattle.tw_sparing.specs.SparingDeeds.{DoesSparingly}
 use Rattle.tw_sparing.specs.Terminal.{sparing_state}
 
@@ -17,8 +17,9 @@ use Rattle.tw_sparing.specs.Terminal.{sparing_state}
 abbrev pub AreKnownSince : ScreenSize → Option Shown → Encoder → List KnownBatch → Type 0
 AreKnownSince size old e [] = ⊤
 AreKnownSince size old e (call ∷ more) =
-    IsKnownAfter size.cols size.rows call.batch old call.known × IsFromStart e.x call.batch old call.known
-    × AreKnownSince size call.known (sent_for size.rows call.batch old call.known e).next more
+    IsKnownAfter size.cols size.rows call.batch old call.drawn × IsFromStart e.x call.batch old call.drawn
+    × IsStillKnown call.drawn call.known
+    × AreKnownSince size call.known (sent_for size.rows call.batch old call.drawn e).next more
 
 module _ {W : Type 0} (contents : W → Option (List ℕ)) where
   -- These batches were taken since, each known after the one before it, and what was written is what was there, and

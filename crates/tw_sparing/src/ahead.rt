@@ -1,11 +1,11 @@
 //! What a terminal shows, and what is drawn ahead of it.
 
-ghost use Rattle.std.specs.Prelude.{◌≡◌, ◌++◌, [], ◌∷◌, true, false, IfOk, OnOk, None, string_bytes, ◌↔◌};
+ghost use Rattle.std.specs.Prelude.{◌≡◌, ◌++◌, [], ◌∷◌, true, false, IfOk, OnOk, None, Option, string_bytes, ◌↔◌};
 ghost use Rattle.tw_ansi.specs.declared.encode.Encoder.{Encoder};
 ghost use Rattle.tw_surface.specs.ChangeView.{batch_view};
 ghost use Rattle.tw_sparing.specs.Ahead.{IsJoined, groups_with, joined_group, latest_known, leaves_sight, sent_ahead, settled_at};
 ghost use Rattle.tw_sparing.specs.KnownRuns.{sent_for_all};
-ghost use Rattle.tw_sparing.specs.Shown.{IsKnownAfter};
+ghost use Rattle.tw_sparing.specs.Shown.{IsKnownAfter, IsStillKnown};
 ghost use Rattle.tw_sparing.specs.SparingRuns.{AreKnownSince};
 
 use crate::sending::{send_for, send_known};
@@ -88,8 +88,9 @@ impl Ahead {
         ensures joined { result.1 ≡ true → IsJoined (batch_view changes.now) self.now result.0 }
         ensures found { IsJoined (batch_view changes.now) self.now result.0 → result.1 ≡ true }
         ensures groups { (e : Encoder) → (at_start ≡ true → e.x ≡ 0)
+            → (known : Option Shown) → IsStillKnown result.0 known
             → AreKnownSince self.now.size self.now.shown e
-            (groups_with result.1 (batch_view changes.now) self.now result.0) }
+            (groups_with result.1 (batch_view changes.now) self.now result.0 known) }
     {
         let next = shown_after(alloc, self.size, self.latest(), at_start, changes);
         let is_joined = self.is_joined(changes, &next);
@@ -130,20 +131,35 @@ impl Ahead {
     pub fn keep(&mut self, changes: &[Change], next: Option<Shown>)
         requires { IsJoined (batch_view changes.now) self.old next }
         ensures { self.new ≡ record self.old {
-          kept = joined_group (batch_view changes.now) self.old next ∷ [];
+          kept = joined_group (batch_view changes.now) self.old next next ∷ [];
         } }
     {
         self.kept = self.kept.with_batch(changes);
         self.drawn = next;
     }
 
-    /// Adds what is sent for what is kept back, and returns what is then known of the terminal.
+    /// Returns the terminal once what is kept back is sent.
+    pub fn settled(self) -> Self
+        ensures { result ≡ settled_at self.size (latest_known self) }
+    {
+        let Ahead {
+            size,
+            shown,
+            drawn,
+            ..
+        } = self;
+        Ahead::new(size, drawn.or(shown))
+    }
+
+    /// Adds what is sent for what is kept back, which is known, and returns what is then known of the terminal.
+    #[tactic(auto, using(crate::proofs::AheadLemmas::kept_ahead))]
     pub fn send_kept(
         &self,
         alloc: Global,
         encoder: Encoder,
         out: &mut String,
     ) -> Result<Encoder, AllocError>
+        ensures known { AreKnownSince self.now.size self.now.shown encoder self.now.kept }
         ensures bytes { OnOk result (string_bytes out.new
             ≡ string_bytes out.old ++ (sent_ahead self.now encoder).bytes) }
         ensures next { IfOk result (λ next. next ≡ (sent_ahead self.now encoder).next) }
@@ -170,14 +186,15 @@ impl Ahead {
         requires known { IsKnownAfter self.now.size.cols self.now.size.rows
             (batch_view changes.now) (latest_known self.now) next.now }
         requires joined { is_joined ≡ true → IsJoined (batch_view changes.now) self.now next.now }
-        ensures bytes { let groups = groups_with is_joined (batch_view changes.now)
-            self.now next.now in
+        ensures bytes { (known : Option Shown)
+            → let groups = groups_with is_joined (batch_view changes.now) self.now next.now known in
             OnOk result (string_bytes out.new
             ≡ string_bytes out.old
             ++ (sent_for_all self.now.size.rows self.now.shown groups encoder).bytes) }
-        ensures next { IfOk result (λ known. known
-            ≡ (sent_for_all self.now.size.rows self.now.shown
-            (groups_with is_joined (batch_view changes.now) self.now next.now) encoder).next) }
+        ensures next { (known : Option Shown)
+            → let groups = groups_with is_joined (batch_view changes.now) self.now next.now known in
+            IfOk result (λ next. next
+            ≡ (sent_for_all self.now.size.rows self.now.shown groups encoder).next) }
     {
         match (&self.shown, next) {
             (Some(shown), Some(next)) if is_joined => {
@@ -198,13 +215,15 @@ impl Ahead {
     ) -> Result<Encoder, AllocError>
         requires { IsKnownAfter self.now.size.cols self.now.size.rows (batch_view changes.now)
             (latest_known self.now) next.now }
-        ensures bytes { let groups = groups_with false (batch_view changes.now) self.now next.now in
+        ensures bytes { (known : Option Shown)
+            → let groups = groups_with false (batch_view changes.now) self.now next.now known in
             OnOk result (string_bytes out.new
             ≡ string_bytes out.old
             ++ (sent_for_all self.now.size.rows self.now.shown groups encoder).bytes) }
-        ensures next { IfOk result (λ known. known
-            ≡ (sent_for_all self.now.size.rows self.now.shown
-            (groups_with false (batch_view changes.now) self.now next.now) encoder).next) }
+        ensures next { (known : Option Shown)
+            → let groups = groups_with false (batch_view changes.now) self.now next.now known in
+            IfOk result (λ next. next
+            ≡ (sent_for_all self.now.size.rows self.now.shown groups encoder).next) }
     {
         match &self.drawn {
             Some(_) => {

@@ -1,7 +1,7 @@
 //! Laws of this crate's definitions: each function does nothing, and its contract is the law.
 
 ghost use Rattle.tw_sparing.specs.KnownRuns.{LooksTheSame, RunsAreShown};
-ghost use Rattle.tw_sparing.specs.PatientRuns.{AnsweredReadingIsSent, LastBatchIsSent, PatientlyLedIsSent, SettledIsSent};
+ghost use Rattle.tw_sparing.specs.PatientRuns.{AnsweredReadingIsSent, FlushedIsSent, LastBatchIsSent, PatientlyLedIsSent, SettledIsSent};
 ghost use Rattle.tw_sparing.specs.Shortness.{NoBatchIsSentForNothing, TypedBatchIsSentAlone};
 ghost use Rattle.tw_sparing.specs.ShownTerminals.{FirstIsKnown, KnownIsShown};
 ghost use Rattle.tw_sparing.specs.SparingRuns.{SparinglyLedIsSent};
@@ -52,9 +52,11 @@ pub fn patience<W: Write>()
 {}
 
 /// At a terminal that waits while more is at hand, nothing is kept back after the last batch, where it was said before
-/// it that no more is at hand. So it is where `read_line_from` has answered (`answered`): its own clauses say what the
-/// law asks for.
+/// it that no more is at hand (`last`). Nor is anything once all batches that were taken are flushed (`flushed`): so it
+/// is after each reading of `read_line_from` that has answered, also where a key ended the input (`answered`), or that
+/// was refused, where its own closing and flush were not.
 pub fn answered<H: LineEditorHost, W: Write>()
     ensures last { LastBatchIsSent W.contents }
-    ensures answered { AnsweredReadingIsSent W.contents H.rules }
+    ensures flushed { FlushedIsSent W.contents }
+    ensures answered { AnsweredReadingIsSent W.contents H.rules H.OVERRIDES }
 {}

@@ -7,8 +7,7 @@
 //!
 //! ```
 //! let terminal = PatientTerminal::new(alloc, output, size);
-//! let events = PromptEvents::reading_ahead(alloc, input, rt);
-//! serve_at(rt, events, terminal, size)
+//! serve_at(rt, input.reading_ahead(), terminal, size)
 //! ```
 #![tactic(auto)]
 

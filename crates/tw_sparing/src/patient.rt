@@ -1,7 +1,7 @@
 //! A terminal over a writer that is sent nothing while more is at hand, and then what differs.
 
 ghost use Rattle.std.specs.Io.KnownBytes.{Appends, Keeps};
-ghost use Rattle.std.specs.Prelude.{◌≡◌, [], Ok, None, IfErr, IfOk, OnOk, OnErr, true, false, refl};
+ghost use Rattle.std.specs.Prelude.{◌≡◌, [], Ok, None, Option, IfErr, IfOk, OnOk, OnErr, true, false, refl};
 ghost use Rattle.tw_surface.specs.ChangeView.{batch_view};
 ghost use Rattle.tw_terminal.specs.TerminalState.{fresh_terminal, Fails, Flushes, RenderFails, Renders};
 ghost use Rattle.tw_ansi.specs.Encoding.{first_known, sent_then};
@@ -11,13 +11,14 @@ ghost use Rattle.tw_device.specs.Deeds.{Called, Said, Sized, sent_deed};
 ghost use Rattle.tw_sparing.specs.Ahead.{groups_with, sent_ahead, latest_known, settled_at, IsJoined};
 ghost use Rattle.tw_sparing.specs.PatientDeeds.{DoesPatiently, FollowsPatiently, IsTakenPatiently, SendsGroups};
 ghost use Rattle.tw_sparing.specs.Terminal.{lost_at, patient_state};
-ghost use Rattle.tw_sparing.specs.Shown.{IsKnownAfter};
+ghost use Rattle.tw_sparing.specs.Shown.{EndsAtStart, IsKnownAfter, IsStillKnown};
 ghost use Rattle.tw_sparing.specs.SparingRuns.{AreKnownSince};
 
 use crate::ahead::Ahead;
-use crate::shown::{Shown, ends_at_start, is_at_start};
+use crate::shown::{Shown, ends_at_start, is_at_start, still_known};
 use std::alloc::Global;
 use std::io::Write;
+use std::mem;
 use tw_ansi::Encoder;
 use tw_device::{BatchRecord, DeviceTerminal, write_text};
 use tw_input::InputEvent;
@@ -97,18 +98,21 @@ impl<W: Write> PatientTerminal<W> {
         ensures said { OnOk result (DoesPatiently W.contents self.old self.new (Said text.now)) }
     {
         let caught = self.catch_up();
+        self.ahead = Ahead::new(self.ahead.size(), None);
         self.at_start = false;
         self.sent.send(&mut self.writer, caught?, text)?;
         self.at_start = true;
         Ok(())
     }
 
-    /// Sends what is kept back, and returns what is then known, which it does not yet keep. What is refused is lost.
-    /// What the terminal shows is not known afterwards.
+    /// Sends what is kept back, and returns what is then known, which it does not yet keep. After a refusal it is not
+    /// known what the terminal shows, and what was kept back is lost.
     fn catch_up(&mut self) -> Result<Encoder, TerminalFault>
+        ensures known { AreKnownSince self.old.ahead.size self.old.ahead.shown
+            self.old.sent.encoder self.old.ahead.kept }
         ensures kept { self.new ≡ record self.old {
           writer = self.new.writer;
-          ahead = settled_at self.old.ahead.size None;
+          ahead = self.new.ahead;
           at_start = self.new.at_start;
         } }
         ensures sent { OnOk result (Appends (W.contents self.old.writer)
@@ -116,23 +120,23 @@ impl<W: Write> PatientTerminal<W> {
             (sent_ahead self.old.ahead self.old.sent.encoder).bytes) }
         ensures next { IfOk result (λ next. next
             ≡ (sent_ahead self.old.ahead self.old.sent.encoder).next) }
-        ensures start { OnErr result (self.new.at_start ≡ false) }
+        ensures ok { OnOk result (self.new.ahead
+            ≡ settled_at self.old.ahead.size (latest_known self.old.ahead)) }
+        ensures err { OnErr result ((self.new.ahead ≡ settled_at self.old.ahead.size None)
+            × (self.new.at_start ≡ false)) }
         ensures settled { self.old.ahead.kept ≡ [] → (result ≡ Ok self.old.sent.encoder)
-            × (self.new.writer ≡ self.old.writer) }
+            × (self.new ≡ self.old) }
     {
-        let size = self.ahead.size();
         if self.ahead.is_settled() {
-            self.ahead = Ahead::new(size, None);
             return Ok(self.sent.encoder);
         }
         let mut text = String::new(self.alloc);
-        let encoded = self
-            .ahead
-            .send_kept(self.alloc, self.sent.encoder, &mut text);
-        self.ahead = Ahead::new(size, None);
+        let lost = Ahead::new(self.ahead.size(), None);
+        let ahead = mem::replace(&mut self.ahead, lost);
         self.at_start = false;
-        let encoder = encoded?;
+        let encoder = ahead.send_kept(self.alloc, self.sent.encoder, &mut text)?;
         write_text(&mut self.writer, text.as_str())?;
+        self.ahead = ahead.settled();
         Ok(encoder)
     }
 
@@ -147,15 +151,18 @@ impl<W: Write> PatientTerminal<W> {
         requires known { IsKnownAfter self.old.ahead.size.cols self.old.ahead.size.rows
             (batch_view changes.now) (latest_known self.old.ahead) next }
         requires joined { is_joined ≡ true → IsJoined (batch_view changes.now) self.old.ahead next }
-        requires groups { AreKnownSince self.old.ahead.size self.old.ahead.shown
-            self.old.sent.encoder (groups_with is_joined (batch_view changes.now) self.old.ahead next) }
+        requires groups { (known : Option Shown) → IsStillKnown next known
+            → AreKnownSince self.old.ahead.size self.old.ahead.shown self.old.sent.encoder
+            (groups_with is_joined (batch_view changes.now) self.old.ahead next known) }
         ensures ok { OnOk result (Renders (batch_view changes.now) (patient_state self.old)
             (patient_state self.new)) }
         ensures sent { OnOk result (SendsGroups W.contents
-            (groups_with is_joined (batch_view changes.now) self.old.ahead next)
+            (groups_with is_joined (batch_view changes.now) self.old.ahead next
+            self.new.ahead.shown)
             self.old self.new) }
-        ensures shown { OnOk result (self.new.ahead.shown ≡ next) }
         ensures more { OnOk result (self.new.is_more ≡ self.old.is_more) }
+        ensures start { OnOk result (self.new.at_start ≡ true
+            → EndsAtStart (batch_view changes.now)) }
         ensures err { OnErr result (self.new ≡ lost_at self.new.writer self.old) }
         ensures unsent { IfErr result (λ fault. fault ≡ Memory → self.new.writer
             ≡ self.old.writer) }
@@ -177,7 +184,7 @@ impl<W: Write> PatientTerminal<W> {
         let encoder = encoded?;
         write_text(&mut self.writer, text.as_str())?;
         self.sent.take(changes, encoder);
-        self.ahead = Ahead::new(size, next);
+        self.ahead = Ahead::new(size, still_known(self.alloc, next, changes));
         self.at_start = ends_at_start(changes);
         self.is_more = was_more;
         Ok(())
@@ -249,23 +256,30 @@ impl<W: Write> Terminal for PatientTerminal<W> {
         self.sent.counted(taken)
     }
 
-    /// Flushes the writer, to which it adds no byte. If something is kept back it does nothing, and is not refused:
-    /// what is kept back is flushed with what is sent next.
+    /// Sends what is kept back, whatever is at hand, and flushes the writer, to which it adds no other byte. Nothing is
+    /// kept back afterwards: a refusal to send may have sent a beginning, and what was kept back is lost with it.
     fn flush(&mut self) -> Result<(), TerminalFault>
         ensures ok { OnOk result (Flushes (patient_state self.old) (patient_state self.new)) }
         ensures err { OnErr result (Fails (patient_state self.old) (patient_state self.new)) }
-        ensures kept { self.new ≡ record self.old { writer = self.new.writer; sent = self.new.sent } }
-        ensures writer { Keeps (W.contents self.old.writer)
-            (W.contents self.new.writer) }
-        ensures waits { (self.old.ahead.kept ≡ [] → ⊥) → (result ≡ Ok tt)
-            × (self.new.writer ≡ self.old.writer) }
+        ensures sent { OnOk result (SendsGroups W.contents self.old.ahead.kept
+            self.old self.new) }
+        ensures kept { self.new.ahead.kept ≡ [] }
+        ensures settled { self.old.ahead.kept ≡ [] → self.new ≡ record self.old {
+          writer = self.new.writer;
+          sent = self.new.sent;
+        } }
         ensures follows { FollowsPatiently W.contents self.old self.new Other }
     {
-        if self.ahead.is_settled() {
-            return self.sent.flush(&mut self.writer);
+        match self.catch_up() {
+            Ok(encoder) => {
+                self.sent.encoder = encoder;
+                self.sent.flush(&mut self.writer)
+            }
+            Err(fault) => {
+                self.is_more = false;
+                self.sent.counted(Err(fault))
+            }
         }
-        self.sent.mark_flushed();
-        Ok(())
     }
 }
 

@@ -6,7 +6,7 @@ ghost use Rattle.tw_surface.specs.ChangeView.{ClearToEndOfScreen, CursorPosition
 ghost use Rattle.tw_surface.specs.declared.change.Position.TheVariants.{Absolute};
 ghost use Rattle.tw_surface.specs.Defaults.{default_color};
 ghost use Rattle.tw_changed.specs.Sending.{IsPrintable};
-ghost use Rattle.tw_sparing.specs.Shown.{changes_below, first_shown, goes_out_of_sight, left_behind, rows_above, Empties, IsBegunBy, FitsTerminal, IsDrawnAfter, IsEmptiedFrom, IsFromStart, IsInSight, IsKnownAfter, IsKnownBy, IsMovedBy, IsRefilled, IsShortMove, IsPlayable, IsPlayed, IsPlayedOnce, KeepsAbove, LeadsToStart, SetsAttributes};
+ghost use Rattle.tw_sparing.specs.Shown.{changes_below, first_shown, from_cursor, goes_out_of_sight, left_behind, rows_above, Empties, EndsAtStart, IsBegunBy, FitsTerminal, IsDrawnAfter, IsEmptiedFrom, IsFromStart, IsStillKnown, IsInSight, IsKnownAfter, IsKnownBy, IsMovedBy, IsRefilled, IsShortMove, IsPlayable, IsPlayed, IsPlayedOnce, KeepsAbove, LeadsToStart, SetsAttributes};
 
 use std::alloc::{AllocError, Global};
 use tw_ansi::Encoder;
@@ -170,6 +170,20 @@ impl Shown {
             }
             _ => None,
         }
+    }
+
+    /// Returns what is known of the rows from the cursor's on.
+    fn from_cursor(&self, alloc: Global) -> Option<Self>
+        ensures { IfSome result (λ left. left ≡ from_cursor self.now) }
+    {
+        let (row, _) = self.screen.cursor();
+        let Ok(screen) = self.screen.without_rows(alloc, row) else {
+            return None;
+        };
+        Some(Shown {
+            screen,
+            reached: self.reached.saturating_sub(row),
+        })
     }
 
     /// Returns the same once more.
@@ -397,6 +411,17 @@ pub fn shown_after(
     }
 }
 
+/// Returns what is still known of what is shown, once a batch was sent. One that leaves the cursor in column 0 closes a
+/// line, whose rows are forgotten: nothing leads above the cursor any more.
+pub fn still_known(alloc: Global, shown: Option<Shown>, changes: &[Change]) -> Option<Shown>
+    ensures { IsStillKnown shown result }
+{
+    match shown {
+        Some(shown) if ends_at_start(changes) => shown.from_cursor(alloc),
+        shown => shown,
+    }
+}
+
 /// Returns true if it is known that the cursor stands in column 0 of a terminal of `cols` columns, under the default
 /// attributes: so the encoder says, and `at_start` that no refusal has put it elsewhere.
 pub fn is_at_start(at_start: bool, encoder: Encoder, cols: usize) -> bool
@@ -406,19 +431,17 @@ pub fn is_at_start(at_start: bool, encoder: Encoder, cols: usize) -> bool
 }
 
 /// Returns true if a batch leaves the cursor in column 0 of a terminal.
-pub fn ends_at_start(changes: &[Change]) -> bool {
-    matches!(
-        changes,
-        [.., Change::ClearScreen(_)]
-            | [
-                ..,
-                Change::CursorPosition {
-                    x: Position::Absolute(0),
-                    y: _
-                },
-                Change::ClearToEndOfScreen(_)
-            ]
-    )
+pub fn ends_at_start(changes: &[Change]) -> bool
+    ensures { result ≡ true → EndsAtStart (batch_view changes.now) }
+{
+    match changes.split_last() {
+        Some((Change::ClearScreen(_), _)) => true,
+        Some((Change::ClearToEndOfScreen(_), before)) => match before.split_last() {
+            Some((change, _)) => row_of_start(change).is_some(),
+            None => false,
+        },
+        _ => false,
+    }
 }
 
 /// Adds what differs of two screens, each without its first rows, and returns what is then known of the terminal.

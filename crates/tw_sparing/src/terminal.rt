@@ -10,12 +10,12 @@ ghost use Rattle.tw_ansi.specs.Sequences.{set_attributes};
 ghost use Rattle.tw_terminal.specs.Uses.{Other, Refused, Took};
 ghost use Rattle.tw_terminal.specs.declared.terminal.TerminalFault.TheVariants.{Device, Memory};
 ghost use Rattle.tw_device.specs.Deeds.{Called, Said, Sized};
-ghost use Rattle.tw_sparing.specs.Shown.{IsFromStart, IsKnownAfter, sent_for};
+ghost use Rattle.tw_sparing.specs.Shown.{EndsAtStart, IsFromStart, IsKnownAfter, sent_for};
 ghost use Rattle.tw_sparing.specs.SparingDeeds.{DoesSparingly};
 ghost use Rattle.tw_sparing.specs.Terminal.{sparing_state};
 
 use crate::sending::send_for;
-use crate::shown::{Shown, ends_at_start, is_at_start, shown_after};
+use crate::shown::{Shown, ends_at_start, is_at_start, shown_after, still_known};
 use std::alloc::Global;
 use std::io::Write;
 use tw_device::{BatchRecord, DeviceTerminal, write_text};
@@ -24,7 +24,8 @@ use tw_surface::Change;
 use tw_terminal::{ScreenSize, Terminal, TerminalFault};
 
 /// A terminal over a writer. It has no events, and the size that its owner gives it. If it is known what it shows, a
-/// batch is sent as what differs, and else by its changes.
+/// batch is sent as what differs, and else by its changes. Of a closed line it forgets the rows, so that a key costs no
+/// more after many lines.
 #[derive(Drop)]
 pub struct SparingTerminal<W> {
     alloc: Global,
@@ -91,6 +92,8 @@ impl<W: Write> SparingTerminal<W> {
             (sparing_state self.new)) }
         ensures took { OnOk result (DoesSparingly W.contents self.old self.new
             (Called (Took (batch_view changes.now)))) }
+        ensures start { OnOk result (self.new.at_start ≡ true
+            → EndsAtStart (batch_view changes.now)) }
         ensures err { OnErr result (self.new ≡ record self.old {
           writer = self.new.writer;
           shown = None;
@@ -100,14 +103,14 @@ impl<W: Write> SparingTerminal<W> {
             ≡ self.old.writer) }
     {
         let at_start = is_at_start(self.at_start, self.sent.encoder, self.size.cols);
-        let next = shown_after(self.alloc, self.size, &self.shown, at_start, changes);
+        let drawn = shown_after(self.alloc, self.size, &self.shown, at_start, changes);
         let mut text = String::new(self.alloc);
         let encoded = send_for(
             self.alloc,
             self.size,
             changes,
             &self.shown,
-            &next,
+            &drawn,
             self.sent.encoder,
             &mut text,
         );
@@ -116,7 +119,7 @@ impl<W: Write> SparingTerminal<W> {
         let encoder = encoded?;
         write_text(&mut self.writer, text.as_str())?;
         self.sent.take(changes, encoder);
-        self.shown = next;
+        self.shown = still_known(self.alloc, drawn, changes);
         self.at_start = ends_at_start(changes);
         Ok(())
     }

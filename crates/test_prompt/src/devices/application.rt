@@ -9,13 +9,13 @@ use tw_device::{AnsiTerminal, Answer, DeviceTerminal, KeyReader, Pasted};
 use tw_key_parts::KeyPart;
 use tw_line::BasicHistory;
 use tw_prompt::{Application, read_with};
-use tw_prompt_host::{PreparedHost, PreparedLines, PromptHost, Rows};
+use tw_prompt_host::{PreparedHost, PreparedLines, PromptHost, Rows, Validation};
 use tw_sparing::PatientTerminal;
 use tw_surface::ColorAttribute;
 use tw_terminal::ScreenSize;
 
 /// The size of the screen.
-const SIZE: ScreenSize = ScreenSize { rows: 8, cols: 12 };
+pub const SIZE: ScreenSize = ScreenSize { rows: 8, cols: 12 };
 
 /// An application whose lines end with a semicolon. After its second event it has news.
 #[derive(Drop)]
@@ -24,11 +24,11 @@ struct Clerk {
 }
 
 impl Application for Clerk {
-    fn lack(&self, alloc: Global, line: &str) -> Result<Option<String>, AllocError> {
+    fn validate(&self, alloc: Global, line: &str) -> Result<Validation, AllocError> {
         if line.ends_with(';') {
-            return Ok(None);
+            return Ok(Validation::Valid);
         }
-        Ok(Some(String::from_str(alloc, "no end")?))
+        Ok(Validation::Incomplete(String::from_str(alloc, "no end")?))
     }
 
     fn news(&mut self, alloc: Global) -> Result<String, AllocError> {

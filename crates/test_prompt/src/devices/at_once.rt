@@ -1,11 +1,13 @@
 //! Lines whose keys come at once.
 
+use super::application::{SIZE, rows_shown};
 use std::alloc::Global;
 use std::test::Fail;
 use test_cases::expect_rows;
-use tw_device::{Answer, KeyReader, read_typed_line};
-use tw_lineedit::NopLineEditorHost;
-use tw_sparing::PatientTerminal;
+use tw_device::{AnsiTerminal, Answer, DeviceTerminal, KeyReader, read_typed_line};
+use tw_lineedit::{CompletionCandidate, Error, LineEditBuffer, NopLineEditorHost};
+use tw_prompt_host::PreparedHost;
+use tw_sparing::{PatientTerminal, SparingTerminal};
 use tw_terminal::ScreenSize;
 
 /// What a prompt of two columns is sent as, at first.
@@ -42,4 +44,60 @@ echo hello\u{1}\u{b}12\u{2}\u{2}3\r => 312
 #[test]
 fn keys_that_come_at_once_are_sent_as_one_line(rt: HostRuntime) -> Result<(), Fail> {
     expect_rows(rt.alloc(), TYPED, read_at_once)
+}
+
+/// Reads a line whose keys come at once, and returns how that ends. The line `ab` is completed by what does not fit.
+fn read_to_end<T: DeviceTerminal>(
+    alloc: Global,
+    mut terminal: T,
+    typed: &str,
+) -> Result<&'static str, Fail>
+where
+    T: Drop,
+{
+    let mut host = PreparedHost::new(alloc);
+    host.asked = LineEditBuffer::new(alloc, "ab", 2)?;
+    host.candidates.push(CompletionCandidate {
+        range: 3..4,
+        text: String::from_str(alloc, "abc")?,
+    })?;
+    let mut keys = KeyReader::new(alloc, typed.as_bytes());
+    match read_typed_line(alloc, &mut keys, &mut terminal, &mut host, "> ") {
+        Ok(Answer::End(_)) => Ok("end"),
+        Err(Error::CandidateDoesNotFit) => Ok("misfit"),
+        _ => Err(Fail::from("another answer")),
+    }
+}
+
+/// Reads a line at the terminal of a row, `KIND KEYS`. Returns how that ends, and what is shown then, with a `_` typed
+/// behind it.
+fn read_refused(alloc: Global, row: &str) -> Result<String, Fail> {
+    let (kind, typed) = row.split_once(' ').ok_or("no keys")?;
+    let mut taken = Vec::new(alloc);
+    let end = match kind {
+        "ansi" => read_to_end(alloc, AnsiTerminal::new(alloc, &mut taken, SIZE), typed)?,
+        "sparing" => read_to_end(alloc, SparingTerminal::new(alloc, &mut taken, SIZE), typed)?,
+        _ => read_to_end(alloc, PatientTerminal::new(alloc, &mut taken, SIZE), typed)?,
+    };
+    taken.push(b'_')?;
+    let shown = rows_shown(alloc, taken.as_slice())?;
+    Ok(format!(in alloc; "{end} {shown}")?)
+}
+
+/// What was typed before the end is shown, and the cursor stands below it, whatever is typed behind.
+const REFUSED: &str = r"
+ansi ab\u{4} => end > ab/_
+ansi ab\u{4}ls\r => end > ab/_
+ansi ab\tls\r => misfit > ab/_
+sparing ab\u{4} => end > ab/_
+sparing ab\u{4}ls\r => end > ab/_
+sparing ab\tls\r => misfit > ab/_
+patient ab\u{4} => end > ab/_
+patient ab\u{4}ls\r => end > ab/_
+patient ab\tls\r => misfit > ab/_
+";
+
+#[test]
+fn what_was_painted_is_sent_whatever_ends_the_line(rt: HostRuntime) -> Result<(), Fail> {
+    expect_rows(rt.alloc(), REFUSED, read_refused)
 }

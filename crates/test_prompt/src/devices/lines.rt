@@ -34,8 +34,21 @@ fn paint<T: DeviceTerminal>(
         },
     ];
     let _ = terminal.render(&changes);
-    let _ = terminal.flush();
     Ok(())
+}
+
+/// Closes a line: leads to column 0 of the row below, and empties what stands there. No more is at hand then. Ignores a
+/// refusal.
+fn close<T: DeviceTerminal>(terminal: &mut T) {
+    terminal.set_more_at_hand(false);
+    let changes = [
+        Change::CursorPosition {
+            x: Position::Absolute(0),
+            y: Position::Relative(1),
+        },
+        Change::ClearToEndOfScreen(ColorAttribute::Default),
+    ];
+    let _ = terminal.render(&changes);
 }
 
 /// Paints `UP COL TEXT`.
@@ -64,10 +77,10 @@ fn type_keys<T: DeviceTerminal>(alloc: Global, terminal: &mut T, count: usize) -
     Ok(())
 }
 
-/// Runs `line UP COL TEXT`, `more UP COL TEXT` (more keys are at hand), `long COUNT TEXT`, `keys COUNT`, `says TEXT`
-/// (the owner's text), or `size ROWS COLS`.
+/// Runs `line UP COL TEXT`, `more UP COL TEXT` (more keys are at hand), `long COUNT TEXT`, `keys COUNT`, `close`,
+/// `flush`, `says TEXT` (the owner's text), or `size ROWS COLS`.
 fn do_to<T: DeviceTerminal>(alloc: Global, terminal: &mut T, command: &str) -> Result<(), Fail> {
-    let (word, rest) = command.split_once(' ').ok_or("no word")?;
+    let (word, rest) = command.split_once(' ').unwrap_or((command, ""));
     match word {
         "line" | "more" => {
             terminal.set_more_at_hand(word == "more");
@@ -75,6 +88,10 @@ fn do_to<T: DeviceTerminal>(alloc: Global, terminal: &mut T, command: &str) -> R
         }
         "long" => paint_long(alloc, terminal, rest)?,
         "keys" => type_keys(alloc, terminal, rest.parse()?)?,
+        "close" => close(terminal),
+        "flush" => {
+            let _ = terminal.flush();
+        }
         "says" => {
             let _ = terminal.send(rest);
         }
@@ -230,6 +247,13 @@ sparing 2 10 0; line 0 1 a\r\nb\r\nc; line -2 1 a\r\nb\r\nc\r\nd => \r\nd
 // fewer rows than the terminal has are sent whole after more
 sparing 2 10 0; line 0 1 a\r\nb\r\nc; line -2 1 a => \e[2A\r\e[K\e[C\e[J\r\e[0ma\r\e[1C
 
+// behind a closed line the next one is sent as what differs, and of what stands above nothing is known
+sparing 24 80 0; line 0 3 > a; close => \r\n
+sparing 24 80 0; line 0 3 > a; close; line 0 3 > b => > b
+sparing 24 80 0; line 0 3 > a; close; line -1 3 > a => \e[1A\r\e[K\e[C\e[J\r\e[0m> a\r\e[3C
+patient 24 80 0; line 0 3 > a; close; line 0 3 > b => > b
+patient 24 80 0; line 0 3 > a; more 0 4 > ab; close => b\r\n
+
 // nothing is sent while keys are at hand
 patient 24 80 0; line 0 2 >\u{20}; more 0 3 > a =>
 patient 24 80 0; line 0 2 >\u{20}; more 0 3 > a; more 0 4 > ab =>
@@ -240,6 +264,11 @@ patient 24 80 0; line 0 2 >\u{20}; more 0 3 > a; more 0 4 > ab; line 0 5 > abc =
 // a thousand keys are sent as one line
 patient 24 2000 0; line 0 2 >\u{20}; keys 1000 => 1000 bytes
 
+// a flush sends what is kept back, and nothing of what was sent
+patient 24 80 0; line 0 2 >\u{20}; more 0 3 > a; more 0 4 > ab; flush => ab
+patient 24 80 0; line 0 2 >\u{20}; more 0 3 > a; flush; flush =>
+patient 24 80 0; line 0 2 >\u{20}; more 0 3 > a; flush; line 0 4 > ab => b
+
 // what is kept back goes before a line of other characters, a text of the owner, and a new size
 patient 24 80 0; line 0 2 >\u{20}; more 0 3 > a; more 0 3 > é => a\r\e[K\e[C\e[J\r\e[0m> é\r\e[3C
 patient 24 80 0; line 0 2 >\u{20}; more 0 3 > a; says note\r\n => a\e[0mnote\r\n
@@ -248,6 +277,7 @@ patient 24 80 0; line 0 2 >\u{20}; more 0 3 > a; size 24 80 => a
 
 // after a refused write a line is sent whole
 patient 24 80 2; line 0 2 >\u{20}; more 0 3 > a; line 0 4 > ab; line 0 5 > abc => \r\e[K\e[C\e[J\r\e[0m> abc\r\e[5C
+patient 24 80 2; line 0 2 >\u{20}; more 0 3 > a; flush; line 0 4 > ab => \r\e[K\e[C\e[J\r\e[0m> ab\r\e[4C
 ";
 
 #[test]

@@ -3,7 +3,7 @@ use Rattle.std.proofs.lemmas.Result.{err_from_is_err_and}
 use Rattle.tw_input.specs.EventView.{event_view}
 use Rattle.tw_device.specs.Told.{answer_events, events_in_option}
 use Rattle.tw_prompt.specs.Joined.{IsRight, Single, pending_events, piece_events, key_of_character}
-use Rattle.tw_prompt.proofs.JoinedLemmas.{moves_nothing, moves_of, moves_then, pieced_more, pieced_nothing, printable_is, run_piece, run_right, run_told, run_typed, told_more}
+use Rattle.tw_prompt.proofs.JoinedLemmas.{moves_nothing, moves_of, moves_then, pieced_more, pieced_nothing, character_is, run_piece, run_right, run_told, run_typed, told_more}
 use Rattle.tw_prompt.proofs.events.PromptEvents.find.Goals as goal
 
 pub loop-turn-init : goal.loop-turn-init
@@ -36,7 +36,7 @@ returns-in-true-Some-clause-pieces g c =
     let first = c.in-true-Some.c in
     let more = c.joined.ensures.moves.0 in
     let piece = run_piece first more in
-    let key = printable_is (event_view c.in-Some.event) first (sym c.printable_in.ensures ∙ c.in-true-Some.is-1) in
+    let key = character_is (event_view c.in-Some.event) first (sym c.character_in.ensures ∙ c.in-true-Some.is-1) in
     let one = moves_of told follows _ _ _ _ (events_in_option c.in_ok-event.field-0) (key_of_character first ∷ []) (ap events_in_option c.in-Some.is ∙ ap (λ e. e ∷ []) key.0) c.in_ok-event.ensures.moves in
     let both = moves_then told follows _ _ _ _ _ _ (key_of_character first ∷ []) (map key_of_character more) one c.joined.ensures.moves.3 in
     let moves = moves_of told follows _ _ _ _ (key_of_character first ∷ map key_of_character more) (piece_events piece) (sym (run_typed first more)) both in

@@ -1,5 +1,5 @@
 use Rattle.std.proofs.Common.{sym}
 use Rattle.tw_prompt_host.proofs.prompt.PromptHost.after_line.Goals as goal
 
-pub returns-then-self-2 : goal.returns-then-self-2
-returns-then-self-2 g c = rw (c.if-self.true, c.if-self-2.true, sym c.default-style.ensures) c.after_line_on.ensures
+pub returns-then-self : goal.returns-then-self
+returns-then-self g c = rw (c.if-self.true, sym c.default-style.ensures, sym c.failing_text-text.ensures) c.after_line_on.ensures
