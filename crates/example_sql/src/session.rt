@@ -3,7 +3,7 @@
 use crate::begun::Begun;
 use crate::catalog::{TABLES, read_catalog};
 use crate::language::Language;
-use crate::table::table_text;
+use crate::table::Table;
 use sql_language::{statement_len, tokenize};
 use sqlite::{Alter, Connection, Error};
 use std::alloc::{AllocError, Global};
@@ -12,7 +12,7 @@ use tw_device::Answer;
 use tw_history_parts::{FileHistory, RecentHistory};
 use tw_key_parts::RowKeys;
 use tw_lineedit::LineEditorHost;
-use tw_prompt::{AllKeys, Prompt, PromptTerminal, all_keys, visible};
+use tw_prompt::{AllKeys, Prompt, PromptError, PromptTerminal, all_keys, visible};
 use tw_prompt_host::{Hints, PreparedHost, PreparedLines, PromptHost, Rows};
 
 /// How many statements the history keeps.
@@ -59,6 +59,33 @@ pub struct Session<'a> {
     begun_line: u64,
     has_failed: bool,
     has_ended: bool,
+}
+
+/// Why a statement is not answered.
+#[derive(Drop)]
+enum Failure {
+    /// The statement failed.
+    Statement(Error),
+    /// Its rows could not be printed.
+    Prompt(PromptError),
+}
+
+impl From<Error> for Failure {
+    fn from(error: Error) -> Self {
+        Failure::Statement(error)
+    }
+}
+
+impl From<AllocError> for Failure {
+    fn from(error: AllocError) -> Self {
+        Failure::Statement(error.into())
+    }
+}
+
+impl From<PromptError> for Failure {
+    fn from(error: PromptError) -> Self {
+        Failure::Prompt(error)
+    }
 }
 
 /// Opens the history of statements.
@@ -238,8 +265,9 @@ impl<'a> Session<'a> {
     ) -> Result<(), anyhow::Error> {
         let alloc = self.rt.alloc();
         let error = match self.answer(connection, statement) {
-            Ok(text) => return Ok(self.prompt.print(text.as_str())?),
-            Err(error) => error,
+            Ok(()) => return Ok(()),
+            Err(Failure::Prompt(error)) => return Err(error.into()),
+            Err(Failure::Statement(error)) => error,
         };
         let tokens = tokenize(alloc, statement)?;
         if tokens.iter().filter(|token| token.text == ";").count() > 1 {
@@ -249,24 +277,34 @@ impl<'a> Session<'a> {
         self.refuse(reason.as_str(), statement)
     }
 
-    /// Runs a statement. Returns its rows as a table, or nothing if it has none.
+    /// Runs a statement, and prints its rows as a table, page by page.
     fn answer<S: Alter>(
-        &self,
+        &mut self,
         connection: &mut Connection<S>,
         statement: &str,
-    ) -> Result<String, Error> {
+    ) -> Result<(), Failure> {
         let alloc = self.rt.alloc();
         let prepared = connection.prepare(statement)?;
         if prepared.column_count() == 0 {
             prepared.execute(connection, &[])?;
-            return Ok(String::new(alloc));
+            return Ok(());
         }
-        let rows = prepared.query_all(connection, &[])?;
         let mut most = usize::MAX;
         if self.options.is_typed {
             most = self.prompt.host.screen.cols;
         }
-        table_text(alloc, prepared.column_names(), &rows, most)
+        let mut table = Table::new(alloc, prepared.column_names(), most)?;
+        let mut rows = prepared.query(connection, &[])?;
+        for _ in 0..u64::MAX {
+            let Some(row) = rows.next()? else {
+                break;
+            };
+            if table.push(alloc, row)? {
+                self.prompt.print(table.page(alloc)?.as_str())?;
+            }
+        }
+        self.prompt.print(table.end(alloc)?.as_str())?;
+        Ok(())
     }
 
     /// Ends the input. A last statement runs without its semicolon in a script, and not at a terminal.

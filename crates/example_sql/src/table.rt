@@ -50,7 +50,7 @@ const NARROWEST: usize = 8;
 /// Rows that are shown as a table, page by page: the names of the columns, a line under them, the rows, and how many
 /// these are. Numbers stand at the right, and no line takes more than `most` columns of a terminal.
 #[derive(Drop)]
-struct Table {
+pub struct Table {
     /// The lines of the next page.
     lines: Vec<Vec<Field>>,
     widths: Vec<usize>,
@@ -132,7 +132,7 @@ fn rule_text(alloc: Global, widths: &[usize], widest: usize) -> Result<String, A
 
 impl Table {
     /// Creates a table of no rows.
-    fn new(alloc: Global, names: &[Bytes], most: usize) -> Result<Self, AllocError> {
+    pub fn new(alloc: Global, names: &[Bytes], most: usize) -> Result<Self, AllocError> {
         let mut line = Vec::new(alloc);
         for name in names {
             line.push(field_of(alloc, ValueRef::Text(name.as_slice()))?)?;
@@ -147,7 +147,7 @@ impl Table {
     }
 
     /// Adds a row. Returns true if a page is full.
-    fn push(&mut self, alloc: Global, row: &Row) -> Result<bool, Error> {
+    pub fn push(&mut self, alloc: Global, row: &Row) -> Result<bool, Error> {
         let mut line = Vec::new(alloc);
         for at in 0..row.column_count() {
             line.push(field_of(alloc, row.get_ref(at)?)?)?;
@@ -172,7 +172,7 @@ impl Table {
     }
 
     /// Takes the rows of a page, as they are shown. No column is narrower than on the page before.
-    fn page(&mut self, alloc: Global) -> Result<String, AllocError> {
+    pub fn page(&mut self, alloc: Global) -> Result<String, AllocError> {
         self.widen()?;
         let widths = self.widths.as_slice();
         let widest = widest_field(widths, self.most);
@@ -193,7 +193,7 @@ impl Table {
     }
 
     /// Returns the last page, and how many rows there are.
-    fn end(mut self, alloc: Global) -> Result<String, AllocError> {
+    pub fn end(mut self, alloc: Global) -> Result<String, AllocError> {
         let mut page = self.page(alloc)?;
         match self.count {
             1 => page.push_str("(1 row)\n")?,
@@ -201,22 +201,4 @@ impl Table {
         }
         Ok(page)
     }
-}
-
-/// Returns rows as a table.
-pub fn table_text(
-    alloc: Global,
-    names: &[Bytes],
-    rows: &[Row],
-    most: usize,
-) -> Result<String, Error> {
-    let mut table = Table::new(alloc, names, most)?;
-    let mut text = String::new(alloc);
-    for row in rows {
-        if table.push(alloc, row)? {
-            text.push_str(table.page(alloc)?.as_str())?;
-        }
-    }
-    text.push_str(table.end(alloc)?.as_str())?;
-    Ok(text)
 }
