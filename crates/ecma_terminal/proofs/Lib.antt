@@ -1,3 +1,4 @@
+pub mod CellLemmas
 pub mod GridLemmas
 pub mod Fields
 pub mod TerminalSteps

@@ -1,17 +1,24 @@
 -- What a terminal shows once it has changed.
-use Rattle.std.proofs.Common.{◌≡◌, ℕ, ◌+◌, ◌-◌, ◌<◌, ◌≤◌, Bool, true, false, ◌&&◌, eqb, min, List, [], ◌∷◌, ◌++◌, length, take, get_or, refl, sym, ap, ◌∙◌, subst, arith, inl, inr, if◌then◌else◌}
-use Rattle.std.specs.List.{list_all}
-use Rattle.std.proofs.lemmas.Bool.{cases_eq, cases_lt, ne_eqb}
+use Rattle.std.proofs.Common.{◌≡◌, ℕ, ◌+◌, ◌-◌, ◌<◌, ◌≤◌, Bool, true, false, ◌&&◌, ◌||◌, eqb, ltb, min, List, [], ◌∷◌, ◌++◌, length, take, get_or, refl, sym, ap, ◌∙◌, subst, arith, inl, inr, if◌then◌else◌}
+use Rattle.std.specs.Prelude.{Some, None, Result, Ok, Err, OnOk, unwrap_or, chars, encode_utf8}
+use Rattle.std.specs.List.{list_all, sum_by}
+use Rattle.std.specs.Str.{IsUtf8}
+use Rattle.std.proofs.lemmas.Str.{chars-nil, chars_past_char, IsUtf8-past_char}
+use Rattle.unicode_width.specs.Width.{char_width}
+use Rattle.std.proofs.lemmas.Bool.{cases_eq, cases_lt, eq-eqb, ne_eqb}
 use Rattle.std.proofs.lemmas.List.{take_more, take_all}
+use Rattle.laws_screens.specs.Pens.{cluster_cells}
+use Rattle.laws_screens.specs.Screens.{blank_of}
 use Rattle.laws_screens.specs.Strokes.{cleared_in}
 use Rattle.laws_screens.specs.StyledCells.{StyledCell, styled}
 use Rattle.tw_ansi.specs.KeyBytes.{is_digit, is_parameter, most, value_after}
 use Rattle.tw_ansi.specs.Selections.{selected}
-use Rattle.tw_ansi.specs.EcmaScreen.{EcmaScreen, act, act_by, feed_line, receive, receive_all, receive_by, return_to_start, row_cleared, told_steps, write, write_here}
+use Rattle.tw_ansi.specs.EcmaScreen.{EcmaScreen, act, act_by, feed_line, char_columns, columns_of, is_whole_character, join_mark, receive, receive_all, receive_by, return_to_start, row_cleared, told_steps, write, write_character, write_here}
 use Rattle.tw_ansi.specs.EcmaScreen as terminal
 use Rattle.tw_ansi.proofs.EcmaSequences.{received}
-use Rattle.ecma_terminal.specs.Grids.{GridView, Redraws}
-use Rattle.ecma_terminal.specs.Terminals.{TerminalView, Becomes, ShowsTerminal, wrapped}
+use Rattle.ecma_terminal.specs.Cells.{shown_cell}
+use Rattle.ecma_terminal.specs.Grids.{GridView, Redraws, grid_cell}
+use Rattle.ecma_terminal.specs.Terminals.{TerminalView, Becomes, ShowsTerminal, only_one, wrapped}
 
 -- rules that make the same of all that is shown
 pub same_rule : (old new : TerminalView) (f g : EcmaScreen StyledCell → EcmaScreen StyledCell) → Becomes old f new
@@ -36,23 +43,76 @@ pub becomes_redrawn : (old : TerminalView) (grid : GridView) (cells : (ℕ → �
 becomes_redrawn old grid cells done = record {
   rows = done.rows;
   cols = done.cols;
-  shown = λ t s. record { cell = done.shown t.cell s.cell; row = s.row; col = s.col; waits = s.waits; rendition = s.rendition; reading = s.reading };
+  shown = λ t s. record { cell = done.shown t.cell s.cell; row = s.row; col = s.col; waits = s.waits; last = s.last; rendition = s.rendition; reading = s.reading };
 }
+
+-- what a terminal shows by its own cells
+abbrev itself : TerminalView → EcmaScreen StyledCell
+itself view = record {
+  cell = λ r c. shown_cell (grid_cell view.grid r c);
+  row = view.row;
+  col = view.col;
+  waits = view.waits;
+  last = view.last;
+  rendition = view.attributes;
+  reading = view.reading;
+}
+
+pub becomes_at : (old new : TerminalView) (rule : EcmaScreen StyledCell → EcmaScreen StyledCell) → Becomes old rule new → ShowsTerminal new (rule (itself old))
+becomes_at old new rule done = done.shown (itself old) (record { cell = λ r c below within. refl; row = refl; col = refl; waits = refl; last = refl; rendition = refl; reading = refl })
 
 -- ---- writing
 
-pub wraps : (h : ℕ) (blank : StyledCell) (t : EcmaScreen StyledCell) → t.waits ≡ true → wrapped blank h t ≡ return_to_start (feed_line blank h t)
-wraps h blank t e = ap (λ b. if b then return_to_start (feed_line blank h t) else t) e
+-- whether these columns go past the end of the cursor's row
+pub passes : (view : TerminalView) (t : EcmaScreen StyledCell) (n : ℕ) → ShowsTerminal view t → (t.waits || ltb view.grid.cols (t.col + n)) ≡ (view.waits || ltb view.grid.cols (view.col + n))
+passes view t n s = ap (λ x. x || ltb view.grid.cols (t.col + n)) s.waits ∙ ap (λ k. view.waits || ltb view.grid.cols (k + n)) s.col
 
-pub wraps_not : (h : ℕ) (blank : StyledCell) (t : EcmaScreen StyledCell) → t.waits ≡ false → wrapped blank h t ≡ t
-wraps_not h blank t e = ap (λ b. if b then return_to_start (feed_line blank h t) else t) e
+pub wraps : (h w n : ℕ) (blank : StyledCell) (t : EcmaScreen StyledCell) → (t.waits || ltb w (t.col + n)) ≡ true → wrapped blank h w n t ≡ return_to_start (feed_line blank h t)
+wraps h w n blank t e = ap (λ b. if b then return_to_start (feed_line blank h t) else t) e
 
-pub write_wrapped : (h w : ℕ) (blank x : StyledCell) (t : EcmaScreen StyledCell) → write blank h w x t ≡ write_here w x (wrapped blank h t)
-write_wrapped h w blank x t = by_waits t.waits
+pub wraps_not : (h w n : ℕ) (blank : StyledCell) (t : EcmaScreen StyledCell) → (t.waits || ltb w (t.col + n)) ≡ false → wrapped blank h w n t ≡ t
+wraps_not h w n blank t e = ap (λ b. if b then return_to_start (feed_line blank h t) else t) e
+
+pub write_wrapped : (h w : ℕ) (blank : StyledCell) (cells : List StyledCell) (t : EcmaScreen StyledCell) → write blank h w cells t ≡ write_here w cells (wrapped blank h w (length cells) t)
+write_wrapped h w blank cells t = by_room (t.waits || ltb w (t.col + length cells))
   where
-    by_waits : (b : Bool) → (if b then write_here w x (return_to_start (feed_line blank h t)) else write_here w x t) ≡ write_here w x (if b then return_to_start (feed_line blank h t) else t)
-    by_waits true = refl
-    by_waits false = refl
+    by_room : (b : Bool) → (if b then write_here w cells (return_to_start (feed_line blank h t)) else write_here w cells t) ≡ write_here w cells (if b then return_to_start (feed_line blank h t) else t)
+    by_room true = refl
+    by_room false = refl
+
+-- a character of no columns is a mark
+pub marks : (old new : TerminalView) (h w : ℕ) (bytes : List ℕ) → columns_of bytes ≡ 0 → Becomes old (join_mark styled w bytes) new → Becomes old (write_character styled h w bytes) new
+marks old new h w bytes none done =
+    same_rule old new (join_mark styled w bytes) (write_character styled h w bytes) done
+    (λ t s. let written : EcmaScreen StyledCell = write (blank_of styled) h w (cluster_cells styled t.rendition bytes (columns_of bytes)) t in
+    ap (λ k. if k then join_mark styled w bytes t else written) (eq-eqb (columns_of bytes) 0 none))
+
+pub on_ok : {X E : Type 0} {P Q : Type 0} (r : Result X E) → (P → Q) → OnOk r P → OnOk r Q
+on_ok (Ok x) f p = f p
+on_ok (Err e) f p = tt
+
+-- ---- characters
+
+pub one_none : (bytes : List ℕ) → length bytes ≡ 0 → only_one (chars bytes) ≡ None
+one_none [] e = ap only_one chars-nil
+one_none (b ∷ bytes) e = absurd (omega (arith, e))
+
+pub one_last : (bytes rest : List ℕ) (c : ℕ) → IsUtf8 bytes → bytes ≡ encode_utf8 c ++ rest → length rest ≡ 0 → only_one (chars bytes) ≡ Some c
+one_last bytes [] c utf8 split e = ap only_one (chars_past_char bytes [] c utf8 split ∙ ap (λ l. c ∷ l) chars-nil)
+one_last bytes (b ∷ rest) c utf8 split e = absurd (omega (arith, e))
+
+pub one_more : (bytes rest more : List ℕ) (c d : ℕ) → IsUtf8 bytes → bytes ≡ encode_utf8 c ++ rest → rest ≡ encode_utf8 d ++ more → only_one (chars bytes) ≡ None
+one_more bytes rest more c d utf8 first second =
+    ap only_one (chars_past_char bytes rest c utf8 first ∙ ap (λ l. c ∷ l) (chars_past_char rest more d (IsUtf8-past_char bytes rest c utf8 first) second))
+
+-- the columns of the only character
+pub one_columns : (bytes : List ℕ) (c : ℕ) → only_one (chars bytes) ≡ Some c → columns_of bytes ≡ unwrap_or (char_width false c) 0
+one_columns bytes c e = by_list (chars bytes) e
+  where
+    by_list : (l : List ℕ) → only_one l ≡ Some c → sum_by char_columns l ≡ unwrap_or (char_width false c) 0
+    by_list [] e = absurd (cc e)
+    by_list (x ∷ []) e = let same : unwrap_or (only_one (x ∷ [])) 0 ≡ c = ap (λ o. unwrap_or o 0) e in omega (arith, ap char_columns same)
+    by_list (x ∷ y ∷ more) e = absurd (cc e)
 
 -- ---- sequences
 
@@ -143,6 +203,20 @@ ended h w byte ps t read ends =
     ap (λ r. receive_by styled h w r byte t) read
     ∙ ap (λ b. if b then record t { reading = terminal.Parameters (ps ++ byte ∷ []) } else at_rest (act styled h w ps byte t)) ends
     ∙ act_rests h w byte ps t
+
+-- a byte that is one more parameter
+pub added : (h w byte : ℕ) (ps : List ℕ) (t : EcmaScreen StyledCell) → t.reading ≡ terminal.Parameters ps → is_parameter byte ≡ true
+    → receive styled h w byte t ≡ record t { reading = terminal.Parameters (ps ++ byte ∷ []) }
+added h w byte ps t read more =
+    ap (λ r. receive_by styled h w r byte t) read
+    ∙ ap (λ b. if b then record t { reading = terminal.Parameters (ps ++ byte ∷ []) } else at_rest (act styled h w ps byte t)) more
+
+-- a byte that ends a character
+pub finished : (h w byte : ℕ) (bytes : List ℕ) (t : EcmaScreen StyledCell) → t.reading ≡ terminal.Begun bytes → is_whole_character (bytes ++ byte ∷ []) ≡ true
+    → receive styled h w byte t ≡ write_character styled h w (bytes ++ byte ∷ []) (at_rest t)
+finished h w byte bytes t read whole =
+    ap (λ r. receive_by styled h w r byte t) read
+    ∙ ap (λ b. if b then write_character styled h w (bytes ++ byte ∷ []) (at_rest t) else record t { reading = terminal.Begun (bytes ++ byte ∷ []) }) whole
 
 -- ---- bytes one after the other
 

@@ -1,3 +1,4 @@
+pub mod Cells
 pub mod Grids
 pub mod Colors
 pub mod Readings

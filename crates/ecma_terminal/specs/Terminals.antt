@@ -1,22 +1,24 @@
 -- What a terminal holds, and the small terminals that it shows.
-use Rattle.std.specs.Prelude.{ℕ, ◌≡◌, ◌<◌, ◌≤◌, ◌&&◌, ◌⊎◌, not, if◌then◌else◌, Bool, true, false, List, ◌∷◌, ◌++◌}
+use Rattle.std.specs.Prelude.{ℕ, ◌≡◌, ◌<◌, ◌≤◌, ◌+◌, ◌-◌, ◌^◌, ◌&&◌, ◌||◌, ◌⊎◌, ltb, leb, not, if◌then◌else◌, Bool, true, false, List, [], ◌∷◌, ◌++◌, Option, Some, None, chars}
+use Rattle.std.specs.Str.{IsUtf8}
 use Rattle.tw_surface.specs.declared.cell.CellAttributes.{CellAttributes}
 use Rattle.tw_surface.specs.Defaults.{default_attributes}
-use Rattle.laws_screens.specs.StyledCells.{StyledCell, styled}
-use Rattle.tw_ansi.specs.EcmaScreen.{EcmaScreen, Reading, Text, Escaped, Parameters, receive_all, feed_line, return_to_start}
+use Rattle.laws_screens.specs.StyledCells.{StyledCell, number_of, styled}
+use Rattle.tw_ansi.specs.EcmaScreen.{EcmaScreen, Reading, Text, Escaped, Parameters, Begun, receive_all, feed_line, return_to_start, is_whole_character, columns_of}
 use Rattle.tw_ansi.specs.KeyBytes.{is_parameter}
 use Rattle.ecma_terminal.specs.declared.fault.EcmaFault.{EcmaFault}
-use Rattle.ecma_terminal.specs.declared.fault.EcmaFault.TheVariants.{Color, Memory}
-use Rattle.ecma_terminal.specs.Grids.{GridView, IsFilledWith, ShowsCells}
+use Rattle.ecma_terminal.specs.declared.fault.EcmaFault.TheVariants.{Character, Color, Full, Memory, Size, Wide}
+use Rattle.ecma_terminal.specs.Grids.{GridView, IsFilledWith, ShowsCells, is_full}
 use Rattle.ecma_terminal.specs.Colors.{ends_in_large}
 
--- its cells, its cursor, whether it waits after the last column, the attributes that are selected, and how far a
--- sequence was read
+-- its cells, its cursor, whether it waits after the last column, the columns of the character that was written last, the
+-- attributes that are selected, and how far a sequence or a character was read
 pub record TerminalView : Type 0 where
   pub grid : GridView
   pub row : ℕ
   pub col : ℕ
   pub waits : Bool
+  pub last : ℕ
   pub attributes : CellAttributes
   pub reading : Reading
 
@@ -33,6 +35,7 @@ pub record ShowsTerminal (view : TerminalView) (t : EcmaScreen StyledCell) : Typ
   pub row : t.row ≡ view.row
   pub col : t.col ≡ view.col
   pub waits : t.waits ≡ view.waits
+  pub last : t.last ≡ view.last
   pub rendition : t.rendition ≡ view.attributes
   pub reading : t.reading ≡ view.reading
 
@@ -42,9 +45,9 @@ pub record Becomes (old : TerminalView) (rule : EcmaScreen StyledCell → EcmaSc
   pub cols : new.grid.cols ≡ old.grid.cols
   pub shown : (t : EcmaScreen StyledCell) → ShowsTerminal old t → ShowsTerminal new (rule t)
 
--- where the cursor waits, to the start of the next row
-abbrev pub wrapped : StyledCell → ℕ → EcmaScreen StyledCell → EcmaScreen StyledCell
-wrapped blank h t = if t.waits then return_to_start (feed_line blank h t) else t
+-- to the start of the next row if the cursor waits, or if these columns do not fit in this one
+abbrev pub wrapped : StyledCell → ℕ → ℕ → ℕ → EcmaScreen StyledCell → EcmaScreen StyledCell
+wrapped blank h w columns t = if t.waits || ltb w (t.col + columns) then return_to_start (feed_line blank h t) else t
 
 -- there are no rows or no columns, or more than 65,535 of them
 abbrev pub HasNoSize : ℕ → ℕ → Type 0
@@ -56,14 +59,16 @@ pub record IsNew (rows cols : ℕ) (x : StyledCell) (view : TerminalView) : Type
   pub row : view.row ≡ 0
   pub col : view.col ≡ 0
   pub waits : view.waits ≡ false
+  pub last : view.last ≡ 0
   pub attributes : view.attributes ≡ default_attributes
   pub reading : view.reading ≡ Text
 
--- a byte is one more parameter
+-- a byte is one more parameter, or one more byte of a character
 abbrev pub is_added_to : Reading → ℕ → Bool
-is_added_to Text byte = false
+is_added_to Text byte = leb 194 byte
 is_added_to Escaped byte = false
 is_added_to (Parameters parameters) byte = is_parameter byte
+is_added_to (Begun bytes) byte = true
 
 -- so it takes memory
 abbrev pub takes_memory : TerminalView → ℕ → Bool
@@ -74,15 +79,50 @@ abbrev pub ends_large : Reading → ℕ → CellAttributes → Bool
 ends_large Text byte a = false
 ends_large Escaped byte a = false
 ends_large (Parameters parameters) byte a = not (is_parameter byte) && ends_in_large parameters byte a
+ends_large (Begun bytes) byte a = false
 
 abbrev pub is_too_large : TerminalView → ℕ → Bool
 is_too_large view byte = ends_large view.reading byte view.attributes
 
--- a byte is refused: for memory it is one more parameter, and for a colour it ends a sequence with a large number
+-- the bytes of a character after one more
+abbrev pub begun_with : Reading → ℕ → List ℕ
+begun_with Text byte = []
+begun_with Escaped byte = []
+begun_with (Parameters parameters) byte = []
+begun_with (Begun bytes) byte = bytes ++ byte ∷ []
+
+abbrev pub character_with : TerminalView → ℕ → List ℕ
+character_with view byte = begun_with view.reading byte
+
+-- the character of a text that has one
+abbrev pub only_one : List ℕ → Option ℕ
+only_one [] = None
+only_one (c ∷ []) = Some c
+only_one (c ∷ d ∷ more) = None
+
+-- bytes that are not those of one character
+abbrev pub IsNoCharacter : List ℕ → Type 0
+IsNoCharacter bytes = ¬ (IsUtf8 bytes) ⊎ (only_one (chars bytes) ≡ None)
+
+-- the column of the cell that a mark joins
+abbrev pub mark_col : TerminalView → ℕ
+mark_col view = (if view.waits then view.grid.cols else view.col) - view.last
+
+-- a character is not written: its bytes are no character, it has more columns than there are, or its cell has more than
+-- 16 bytes with it
+abbrev pub IsUnwritten : EcmaFault → TerminalView → List ℕ → Type 0
+IsUnwritten Character view character = IsNoCharacter character
+IsUnwritten Wide view character = view.grid.cols < columns_of character
+IsUnwritten Full view character = (is_full view.grid view.row (mark_col view) character ≡ true) ⊎ (2 ^ 128 ≤ number_of character)
+IsUnwritten _ view character = ⊥
+
+-- a byte is refused: for memory it is one more parameter or one more of a character, for a colour it ends a sequence with
+-- a large number, and else it ends a character that is not written
 abbrev pub IsRefusedFor : EcmaFault → TerminalView → ℕ → Type 0
 IsRefusedFor Memory view byte = takes_memory view byte ≡ true
 IsRefusedFor Color view byte = is_too_large view byte ≡ true
-IsRefusedFor _ view byte = ⊥
+IsRefusedFor Size view byte = ⊥
+IsRefusedFor fault view byte = (is_whole_character (character_with view byte) ≡ true) × IsUnwritten fault view (character_with view byte)
 
 -- of some bytes those before one were received, and that one is refused
 pub record StopsWithin (fault : EcmaFault) (bytes : List ℕ) (old new : TerminalView) : Type 0 where

@@ -12,8 +12,14 @@ use std::fmt;
 pub enum EcmaFault {
     /// It would have no rows or no columns, or more than 65,535 of them.
     Size,
+    /// Bytes are no character.
+    Character,
     /// A number of a colour is above 255.
     Color,
+    /// A character has more columns than the terminal.
+    Wide,
+    /// A character and its marks have more than 16 bytes.
+    Full,
     /// There is no memory.
     Memory,
 }
@@ -22,7 +28,10 @@ impl fmt::Display for EcmaFault {
     fn fmt<W: fmt::Write>(&self, f: &mut fmt::Formatter<W>) -> fmt::Result {
         f.write_str(match self {
             EcmaFault::Size => "size out of range",
+            EcmaFault::Character => "bytes that are no character",
             EcmaFault::Color => "colour out of range",
+            EcmaFault::Wide => "character wider than the terminal",
+            EcmaFault::Full => "too many marks in a cell",
             EcmaFault::Memory => "out of memory",
         })
     }

@@ -13,10 +13,12 @@
 //! ```
 #![tactic(auto)]
 
+mod cell;
 mod fault;
 mod grid;
 mod rendition;
 mod terminal;
 
+pub use cell::TerminalCell;
 pub use fault::EcmaFault;
 pub use terminal::EcmaTerminal;

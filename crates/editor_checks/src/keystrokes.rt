@@ -7,6 +7,20 @@ const LETTERS: &[&[u8]] = &[
     b"a", b"b", b"c", b"d", b"e", b"g", b"i", b"l", b"o", b"s", b"t", b" ", b" ", b"a", b"0", b"~",
 ];
 
+/// Characters of several bytes: Han, kana, Hangul, an emoji, letters with an accent, and a letter with marks.
+const WIDE: &[&[u8]] = &[
+    b"\xe6\xbc\xa2",
+    b"\xe5\xad\x97",
+    b"\xe3\x81\x82",
+    b"\xe3\x82\xab",
+    b"\xed\x95\x9c",
+    b"\xf0\x9f\x9a\x80",
+    b"\xc3\xa9",
+    b"e\xcc\x81",
+    b"o\xcc\x88\xcc\xa3",
+    b"\xe6\xbc\xa2\xcc\x81",
+];
+
 /// Keys as terminals send them: the arrows in their two modes, Home and End, Backspace and Delete, the keys of words,
 /// Tab, the searches, the history, and sequences that mean nothing.
 const COMMANDS: &[&[u8]] = &[
@@ -52,6 +66,7 @@ const PASTES: &[&[u8]] = &[
     b"\x1b[200~a b c\x1b[201~",
     b"\x1b[200~log\r\nls\x1b[201~",
     b"\x1b[200~some pasted text\x1b[201~",
+    b"\x1b[200~a \xe6\xbc\xa2\xe5\xad\x97 b\x1b[201~",
 ];
 
 /// The keys that end a line: Enter in its two forms, the key that cancels it, and the one that ends the input where the
@@ -65,6 +80,7 @@ fn keystroke(numbers: &mut RandomNumbers) -> &'static [u8] {
         1..=2 => numbers.pick(ENDS, b"\r"),
         3 => numbers.pick(PASTES, b" "),
         4..=17 => numbers.pick(COMMANDS, b"\x0b"),
+        18..=23 => numbers.pick(WIDE, b" "),
         _ => numbers.pick(LETTERS, b" "),
     }
 }

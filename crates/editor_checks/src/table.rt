@@ -4,8 +4,8 @@ ghost use Rattle.std.specs.Prelude.{◌<◌};
 
 use crate::painted::{Batch, PaintedTexts};
 use crate::random_numbers::RandomNumbers;
+use ecma_terminal::TerminalCell;
 use std::alloc::{AllocError, Global};
-use tw_changed::ScreenCell;
 use tw_surface::{CellAttributes, Change};
 
 /// The row at which a full screen is entered, where it has that row.
@@ -39,23 +39,33 @@ impl Entry {
     }
 
     /// Returns what each cell of a screen holds at first.
-    pub fn cell(self) -> ScreenCell {
+    pub fn cell(self) -> TerminalCell {
         match self {
-            Entry::Blank => shown(' ', false),
-            Entry::Full => shown('#', false),
+            Entry::Blank => shown(b' ', false),
+            Entry::Full => shown(b'#', false),
         }
     }
 }
 
-/// Returns a character in default attributes, or in the mark that the host of this crate gives the line from its cursor
-/// on.
-fn shown(character: char, is_marked: bool) -> ScreenCell {
-    ScreenCell {
-        character,
+/// Returns the first byte of a character in default attributes, or in the mark that the host of this crate gives the
+/// line from its cursor on.
+fn shown(byte: u8, is_marked: bool) -> TerminalCell {
+    TerminalCell {
+        number: u128::from(byte),
         attributes: CellAttributes {
             reverse: is_marked,
             ..CellAttributes::default()
         },
+    }
+}
+
+/// Returns the columns of a character by its first byte: one of ASCII and of a letter with an accent, two of Han, kana,
+/// Hangul and emoji. Other bytes go on with a character, or with the marks on it.
+fn columns_of(byte: u8) -> usize {
+    match byte {
+        b' '..=b'~' | 0xc3 => 1,
+        0xe3..=0xed | 0xf0 => 2,
+        _ => 0,
     }
 }
 
@@ -64,7 +74,7 @@ fn shown(character: char, is_marked: bool) -> ScreenCell {
 pub struct Table {
     rows: usize,
     width: usize,
-    cells: Vec<ScreenCell>,
+    cells: Vec<TerminalCell>,
     first_row: usize,
     last_row: usize,
     cursor: (usize, usize),
@@ -100,7 +110,7 @@ impl Table {
     }
 
     /// Returns what the cell at a row and a column is to hold, or none outside the screen.
-    pub fn cell(&self, row: usize, col: usize) -> Option<ScreenCell> {
+    pub fn cell(&self, row: usize, col: usize) -> Option<TerminalCell> {
         if col >= self.width {
             return None;
         }
@@ -155,12 +165,10 @@ impl Table {
     }
 
     /// Returns how many rows a painting takes, down to its last one or to the cursor's. The column of the cursor is the
-    /// one given, or else the number of characters before the cursor.
+    /// one given, or else the number of bytes before the cursor.
     fn rows_of(&self, texts: &PaintedTexts<'_>, column: Option<usize>) -> usize {
-        let line = texts.prompt.len();
-        let end = line
-            .saturating_add(texts.front.len())
-            .saturating_add(texts.back.len());
+        let line = self.end_of(0, texts.prompt);
+        let end = self.end_of(self.end_of(line, texts.front), texts.back);
         let cursor = line.saturating_add(column.unwrap_or(texts.front.len()));
         let lower = match texts.lower {
             Some(lower) => self.lower_rows(lower),
@@ -187,18 +195,16 @@ impl Table {
     }
 
     /// Paints the texts from the row on where the screen was entered, and a blank after the line where it fills
-    /// its last row. The column of the cursor is the one given, or else the number of characters before the cursor.
+    /// its last row. The column of the cursor is the one given, or else the number of bytes before the
+    /// cursor.
     fn paint(&mut self, texts: &PaintedTexts<'_>, column: Option<usize>) {
         let row = self.first_row;
         self.clear_from(row);
-        let line = texts.prompt.len();
-        let cursor = line.saturating_add(texts.front.len());
-        let end = cursor.saturating_add(texts.back.len());
-        self.put_text(row, 0, texts.prompt, false);
-        self.put_text(row, line, texts.front, false);
-        self.put_text(row, cursor, texts.back, true);
+        let line = self.put_text(row, 0, texts.prompt, false);
+        let cursor = self.put_text(row, line, texts.front, false);
+        let end = self.put_text(row, cursor, texts.back, true);
         if end > 0 && end % self.width == 0 {
-            self.put_text(row, end, " ", true);
+            self.put(row, end, b' ', true);
         }
         self.cursor = self.place(
             row,
@@ -210,12 +216,9 @@ impl Table {
         }
     }
 
-    /// Returns the place `characters` characters after the start of a row.
-    fn place(&self, row: usize, characters: usize) -> (usize, usize) {
-        (
-            row.saturating_add(characters / self.width),
-            characters % self.width,
-        )
+    /// Returns the place of the cell of an index, from the start of a row on.
+    fn place(&self, row: usize, index: usize) -> (usize, usize) {
+        (row.saturating_add(index / self.width), index % self.width)
     }
 
     fn index_of(&self, row: usize, column: usize) -> usize {
@@ -228,26 +231,75 @@ impl Table {
 
     fn blank_from(&mut self, index: usize) {
         for cell in self.cells.iter_mut().skip(index) {
-            *cell = shown(' ', false);
+            *cell = shown(b' ', false);
         }
     }
 
-    /// Puts a text, marked or not, `before` characters after the start of a row.
-    fn put_text(&mut self, row: usize, before: usize, text: &str, is_marked: bool) {
-        for (index, byte) in text.bytes().enumerate() {
-            let (row, column) = self.place(row, before.saturating_add(index));
-            let at = self.index_of(row, column);
-            if let Some(cell) = self.cells.get_mut(at) {
-                *cell = shown(char::from(byte), is_marked);
+    /// Returns the index at which a character begins after `end` cells: in the next row if it does not fit.
+    fn begin(&self, end: usize, columns: usize) -> usize {
+        let left = self.width.saturating_sub(end % self.width);
+        if columns > left {
+            end.saturating_add(left)
+        } else {
+            end
+        }
+    }
+
+    /// Returns how many cells there are with a text after `before` ones.
+    fn end_of(&self, before: usize, text: &str) -> usize {
+        let mut end = before;
+        for byte in text.bytes() {
+            let columns = columns_of(byte);
+            if columns > 0 {
+                end = self.begin(end, columns).saturating_add(columns);
             }
         }
+        end
+    }
+
+    /// Puts a byte, marked or not, in the cell of an index, from the start of a row on.
+    fn put(&mut self, row: usize, index: usize, byte: u8, is_marked: bool) {
+        let (row, column) = self.place(row, index);
+        let at = self.index_of(row, column);
+        if let Some(cell) = self.cells.get_mut(at) {
+            *cell = shown(byte, is_marked);
+        }
+    }
+
+    /// Adds a byte to the cell of an index, from the start of a row on.
+    fn add(&mut self, row: usize, index: usize, byte: u8) {
+        let (row, column) = self.place(row, index);
+        let at = self.index_of(row, column);
+        if let Some(cell) = self.cells.get_mut(at) {
+            cell.number = cell.number.wrapping_mul(256).wrapping_add(u128::from(byte));
+        }
+    }
+
+    /// Puts a text, marked or not, after `before` cells from the start of a row on. Returns how many there are then.
+    fn put_text(&mut self, row: usize, before: usize, text: &str, is_marked: bool) -> usize {
+        let mut end = before;
+        let mut first = before;
+        for byte in text.bytes() {
+            let columns = columns_of(byte);
+            if columns == 0 {
+                self.add(row, first, byte);
+                continue;
+            }
+            first = self.begin(end, columns);
+            end = first.saturating_add(columns);
+            self.put(row, first, byte, is_marked);
+            if columns == 2 {
+                self.put(row, first.saturating_add(1), 0, is_marked);
+            }
+        }
+        end
     }
 
     /// Puts each of the lower lines in the row under what stands above it.
     fn put_lower(&mut self, lower: &str) {
         for line in lower.split("\r\n") {
             let row = self.next_row();
-            self.put_text(row, 0, line, false);
+            let _cells = self.put_text(row, 0, line, false);
             self.last_row = self.last_row.saturating_add(self.line_rows(line));
         }
     }
@@ -263,6 +315,6 @@ impl Table {
 
     /// Returns how many rows a line under the line takes.
     fn line_rows(&self, line: &str) -> usize {
-        line.len().div_ceil(self.width).max(1)
+        self.end_of(0, line).div_ceil(self.width).max(1)
     }
 }

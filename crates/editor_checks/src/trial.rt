@@ -8,9 +8,9 @@ use std::alloc::{AllocError, Global};
 use tw_terminal::ScreenSize;
 
 /// Prompts.
-const PROMPTS: &[&str] = &["> ", "> ", "", "sh$ ", "a longer prompt: "];
+const PROMPTS: &[&str] = &["> ", "> ", "", "sh$ ", "a longer prompt: ", "漢字> "];
 
-/// Lines under the line: printable ASCII, with CR LF between them.
+/// Lines under the line, with CR LF between them.
 const PREVIEWS: &[&str] = &[
     "",
     "",
@@ -20,6 +20,7 @@ const PREVIEWS: &[&str] = &[
     "abcde\r\n\r\nfg",
     "abcdef\r\n",
     "\r\nabc",
+    "a 漢字 b かな\r\né\r\n한글🚀",
 ];
 
 /// Columns that the host gives in place of the cursor's own.
@@ -32,10 +33,15 @@ const LINES: &[&str] = &[
     "cat a b",
     "sed abc dog",
     "tail log -n 5 of a longer line",
+    "漢字とかな e\u{301} 한글",
 ];
 
 /// What the host offers.
-const CANDIDATES: &[(usize, usize, &str)] = &[(0, 0, "let "), (0, 0, "a longer candidate ")];
+const CANDIDATES: &[(usize, usize, &str)] = &[
+    (0, 0, "let "),
+    (0, 0, "a longer candidate "),
+    (0, 0, "漢字 "),
+];
 
 /// The fewest rows and columns of a screen.
 const LEAST: u64 = 2;

@@ -1,9 +1,8 @@
 -- Each character of a line stands in its cell.
-use Rattle.std.proofs.Common.{◌≡◌, ℕ, zero, suc, pos, ◌+ℤ◌, ◌+◌, ◌*◌, ◌/◌, ◌%◌, ◌<◌, ◌≤◌, Bool, true, false, eqb, ltb, List, [], ◌∷◌, ◌++◌, length, map, refl, ap, sym, subst, ◌∙◌, arith, length-append, append_assoc, append-nil, if◌then◌else◌, ◌&&◌}
+use Rattle.std.proofs.Common.{◌≡◌, ℕ, zero, suc, pos, ◌+ℤ◌, ◌+◌, ◌*◌, ◌/◌, ◌%◌, ◌<◌, ◌≤◌, Bool, true, false, eqb, ltb, List, [], ◌∷◌, ◌++◌, length, refl, ap, sym, subst, ◌∙◌, arith, length-append, append_assoc, append-nil, if◌then◌else◌, ◌&&◌}
 use Rattle.std.specs.List.{list_all}
 use Rattle.std.proofs.lemmas.Bool.{and_parts, and_from, or_parts, false≢true, ne_eqb, lt-ltb}
 use Rattle.std.proofs.lemmas.Int.{ints}
-use Rattle.std.proofs.lemmas.List.{map-append}
 use Rattle.std.proofs.lemmas.List.Folds.{list_all-append}
 use Rattle.std.proofs.Math.Nat.{mul-add-mod_self_right, mul-add-div_right}
 use Rattle.laws_screens.specs.Strokes.{PictureOf}
@@ -18,24 +17,26 @@ use Rattle.tw_surface.specs.Paintings.{before_line, edge_space, lower_changes}
 use Rattle.tw_surface.specs.Pictures.{blank}
 use Rattle.tw_surface.specs.Places.{Place, origin, place_after_all}
 use Rattle.tw_surface.specs.Scenes.{Scene, IsPlain, is_typing, typed_text}
-use Rattle.laws_screens.specs.Pens.{Pen, letters_of, letter_cell, lines_of_letters}
-use Rattle.laws_screens.specs.SceneSheets.{sheet_of, edge_letters}
+use Rattle.laws_screens.specs.PaintedAlike.{IsPaintedAs}
+use Rattle.laws_screens.specs.Pens.{Pen}
+use Rattle.laws_screens.specs.SceneSheets.{sheet_of}
 use Rattle.laws_screens.specs.StyledCells.{characters}
-use Rattle.laws_screens.proofs.DrawnChanges.{lines-chars, chars-typed}
-use Rattle.laws_screens.proofs.PlainScenes.{plain_is_simple}
+use Rattle.laws_screens.proofs.FreshCharacters.{at_is, text_is, lower_is}
+use Rattle.laws_screens.proofs.PaintedAlikeLemmas.{measured_is_itself}
+use Rattle.laws_screens.proofs.PlainScenes.{plain_is_measured}
+use Rattle.laws_screens.proofs.RowSceneLemmas.{rows_are_a_preview}
 use Rattle.laws_screens.proofs.PlainTexts.{one_line}
 use Rattle.laws_prompt.specs.Rows.{is_row_character, rows_of_text, rows_down, column_after, spread}
-use Rattle.laws_prompt.specs.RowScenes.{place_behind, folded}
-use Rattle.laws_prompt.specs.RowStations.{IsRowStation, simple_at}
-use Rattle.laws_prompt.specs.RowStations.IsRowStation.{Simple, WithRows}
+use Rattle.laws_screens.specs.RowScenes.{place_behind, folded}
 use Rattle.laws_prompt.specs.PlainRows.{is_row_typing, has_pair, first_row_changes, other_rows, HasPlainRows, plain_folded}
-use Rattle.laws_prompt.specs.RowCells.{ShowsLine, AnswersShowLines, ShownLinesAreRowStations, StandInRows, CellsByDivision}
+use Rattle.laws_prompt.specs.RowCells.{ShowsLine, AnswersShowLines, ShownLinesArePlain, StandInRows, CellsByDivision}
 use Rattle.laws_prompt.proofs.RowTexts.{some_lines, ends_there, are_rows}
 use Rattle.laws_prompt.proofs.ColumnLemmas.{cursor_stands_in_its_row, row_column_is_settled}
 use Rattle.laws_prompt.proofs.SpreadLines.{spread-lines, spread-both, rows-off-edge, both-printable}
 use Rattle.laws_prompt.proofs.ShownRows.{first_cells, cell_there, lines_behind}
 use Rattle.laws_prompt.proofs.TypedColumns.{IsTip, tip-start, tip-changes}
-use Rattle.laws_prompt.proofs.PlainRowLemmas.{parts_of, typed-both, line_text, first_typed, folded_is_plain, plain_rows_are_rows}
+use Rattle.laws_prompt.proofs.MeasuredRowLemmas.{parts_of}
+use Rattle.laws_prompt.proofs.PlainRowLemmas.{typed-both, line_text, first_typed, folded_is_plain, plain_rows_are_rows}
 
 -- ---- a sheet of characters
 
@@ -71,38 +72,27 @@ unpaired (ClearScreen x ∷ more) h p = absurd (false≢true h)
 unpaired (ClearToEndOfScreen x ∷ more) h p = absurd (false≢true h)
 unpaired (CursorPosition x y ∷ more) h p = absurd (false≢true h)
 
-abbrev pub start : Unit {0}
-start = characters.attributes default_attributes
-
--- the characters of the space at the edge
+-- the space at the edge
 abbrev pub edge_of : ℕ → Scene → List ℕ
-edge_of cols scene = map (letter_cell characters) (edge_letters characters cols scene)
+edge_of cols scene = if ltb 0 (length (text_of scene)) && eqb (length (text_of scene) % cols) 0 then blank ∷ [] else []
 
 edge-is : (cols : ℕ) (scene : Scene) → list_all is_printable (edge_of cols scene) ≡ true
 edge-is cols scene = by (ltb 0 (length (text_of scene)) && eqb (length (text_of scene) % cols) 0)
   where
-    by : (k : Bool) → list_all is_printable (map (letter_cell characters) (if k then record { kept = tt; ch = blank } ∷ [] else [])) ≡ true
+    by : (k : Bool) → list_all is_printable (if k then blank ∷ [] else []) ≡ true
     by true = refl
     by false = refl
 
 pub no-edge : (cols : ℕ) (scene : Scene) → (length (text_of scene) % cols ≡ 0 → length (text_of scene) ≡ 0) → edge_of cols scene ≡ []
 no-edge cols scene off = by (length (text_of scene)) off
   where
-    by : (n : ℕ) → (n % cols ≡ 0 → n ≡ 0) → map (letter_cell characters) (if ltb 0 n && eqb (n % cols) 0 then record { kept = tt; ch = blank } ∷ [] else []) ≡ []
+    by : (n : ℕ) → (n % cols ≡ 0 → n ≡ 0) → (if ltb 0 n && eqb (n % cols) 0 then blank ∷ [] else []) ≡ []
     by zero off = refl
     by (suc n) off = rw (lt-ltb 0 (suc n) (omega arith), ne_eqb (suc n % cols) 0 (λ e. omega (arith, off e))) refl
 
 -- its first line
-pub text-is : (cols : ℕ) (scene : Scene) → (sheet_of characters cols scene).text ≡ typed_text scene.prompt ++ (typed_text scene.line ++ edge_of cols scene)
-text-is cols scene =
-    map-append (letter_cell characters) (letters_of characters start scene.prompt) (letters_of characters start scene.line ++ edge_letters characters cols scene)
-    ∙ ap (λ (l : List ℕ). l ++ map (letter_cell characters) (letters_of characters start scene.line ++ edge_letters characters cols scene)) (chars-typed characters start scene.prompt)
-    ∙ ap (λ (l : List ℕ). typed_text scene.prompt ++ l) (map-append (letter_cell characters) (letters_of characters start scene.line) (edge_letters characters cols scene)
-    ∙ ap (λ (l : List ℕ). l ++ edge_of cols scene) (chars-typed characters start scene.line))
-
--- and those of a preview
-pub preview-is : (elements : Batch) → map (map (letter_cell characters)) (lines_of_letters (letters_of characters start elements)) ≡ lines_of (typed_text elements)
-preview-is elements = lines-chars (letters_of characters start elements) ∙ ap lines_of (chars-typed characters start elements)
+pub text-is : (cols : ℕ) (scene : Scene) → 2 ≤ cols → IsPlain scene → (sheet_of characters cols scene).text ≡ typed_text scene.prompt ++ (typed_text scene.line ++ edge_of cols scene)
+text-is cols scene two plain = text_is cols 0 scene two plain ∙ append_assoc (typed_text scene.prompt) (typed_text scene.line) (edge_of cols scene)
 
 module _ (cols : ℕ) (scene : Scene) (h : HasPlainRows cols scene) where
   -- the space at the edge, and what stands under the line
@@ -123,10 +113,12 @@ module _ (cols : ℕ) (scene : Scene) (h : HasPlainRows cols scene) where
   folded_text =
       let prompt : List ℕ = typed_text scene.prompt in
       let first : List ℕ = typed_text (first_row_changes scene.line) in
-      text-is cols other ∙ ap (λ (l : List ℕ). prompt ++ (first ++ l)) (no-edge cols other h.off_edge) ∙ ap (λ (l : List ℕ). prompt ++ l) (append-nil first)
+      text-is cols other h.wide (folded_is_plain cols scene h) ∙ ap (λ (l : List ℕ). prompt ++ (first ++ l)) (no-edge cols other h.off_edge) ∙ ap (λ (l : List ℕ). prompt ++ l) (append-nil first)
 
   pub folded_lower : (sheet_of characters cols other).lower ≡ below
-  folded_lower = preview-is (other_rows scene.line ++ end) ∙ ap lines_of (typed-both (other_rows scene.line) end)
+  folded_lower =
+      let plain = folded_is_plain cols scene h in
+      lower_is cols 0 other h.wide plain other.lower plain.lower ∙ ap lines_of (typed-both (other_rows scene.line) end)
 
   -- the lines of all that is typed
   pub folded_lines : lines_of (typed_text scene.prompt ++ (typed_text scene.line ++ typed_text end)) ≡ head ∷ below
@@ -161,15 +153,15 @@ module _ (cols s : ℕ) (scene : Scene) (shown : PictureOf ℕ) where
       subst (λ (ls : List (List ℕ)). AreLinesShown cols s blank ls shown) (sym (folded_lines cols scene h)) (shown_first, rw from at under_first)
 
   -- a line of one row
-  line_alone : list_all is_typing scene.prompt ≡ true → list_all is_typing scene.line ≡ true → IsFreshSheet cols s blank (sheet_of characters cols scene) shown
+  line_alone : 2 ≤ cols → IsPlain scene → IsFreshSheet cols s blank (sheet_of characters cols scene) shown
       → AreLinesShown cols s blank (lines_of (typed_text scene.prompt ++ (typed_text scene.line ++ edge_of cols scene))) shown
-  line_alone p l fresh =
+  line_alone two k fresh =
       let all : List ℕ = typed_text scene.prompt ++ (typed_text scene.line ++ edge_of cols scene) in
       let plain : list_all is_printable all ≡ true =
-      both-printable (typed_text scene.prompt) (typed_text scene.line ++ edge_of cols scene) (printable_typed scene.prompt p)
-      (both-printable (typed_text scene.line) (edge_of cols scene) (printable_typed scene.line l) (edge-is cols scene)) in
+      both-printable (typed_text scene.prompt) (typed_text scene.line ++ edge_of cols scene) (printable_typed scene.prompt k.prompt)
+      (both-printable (typed_text scene.line) (edge_of cols scene) (printable_typed scene.line k.line) (edge-is cols scene)) in
       subst (λ (ls : List (List ℕ)). AreLinesShown cols s blank ls shown) (sym (one_line all plain))
-      (subst (λ (t : List ℕ). IsTextShown cols s blank t shown) (text-is cols scene) fresh.shown, tt)
+      (subst (λ (t : List ℕ). IsTextShown cols s blank t shown) (text-is cols scene two k) fresh.shown, tt)
 
 -- ---- a scene that shows a line
 
@@ -250,13 +242,15 @@ module _ (cols : ℕ) (prompt continuation before rest : List ℕ) (scene : Scen
         (sym (ap (list_all is_row_character) e) ∙ rows-typed) not_lf (rw (h.prompt_is, line-is ∙ ap (spread cols continuation (length prompt)) e) at lines);
   }
 
-pub shown_lines_are_row_stations : {A C : Type 0} (pen : Pen A C) → ShownLinesAreRowStations pen
-shown_lines_are_row_stations pen cols prompt continuation before rest scene h = by (has_pair scene.line) refl
+pub shown_lines_are_plain : {A C : Type 0} (pen : Pen A C) → ShownLinesArePlain pen
+shown_lines_are_plain pen cols prompt continuation before rest scene h = by (has_pair scene.line) refl
   where
-    by : (k : Bool) → has_pair scene.line ≡ k
-        → (it : IsRowStation pen (record { scene = scene; cols = cols })) × (simple_at pen (record { scene = scene; cols = cols }) it ≡ record { scene = plain_folded cols scene; cols = cols })
-    by true e = rw e (WithRows (first_row_changes scene.line) (other_rows scene.line) (plain_rows_are_rows pen cols scene (has_rows cols prompt continuation before rest scene h e)), refl)
-    by false e = rw e (Simple (h.wide, (plain_is_simple scene (is_plain_scene cols prompt continuation before rest scene h e)).0), refl)
+    by : (k : Bool) → has_pair scene.line ≡ k → IsPaintedAs pen (record { scene = scene; cols = cols }) (record { scene = plain_folded cols scene; cols = cols })
+    by true e =
+        let rows = plain_rows_are_rows pen cols scene (has_rows cols prompt continuation before rest scene h e) in
+        rw e (rows_are_a_preview pen (record { scene = scene; cols = cols }) (first_row_changes scene.line) (other_rows scene.line) rows)
+    by false e =
+        rw e (measured_is_itself pen (record { scene = scene; cols = cols }) (h.wide, plain_is_measured cols scene h.wide (is_plain_scene cols prompt continuation before rest scene h e)))
 
 pub cells_by_division : CellsByDivision
 cells_by_division cols s prompt continuation before rest scene shown h fresh = by (has_pair scene.line) refl
@@ -264,15 +258,14 @@ cells_by_division cols s prompt continuation before rest scene shown h fresh = b
     by : (k : Bool) → has_pair scene.line ≡ k → StandInRows cols s prompt continuation before rest shown
     by true e =
         let rows = has_rows cols prompt continuation before rest scene h e in
-        let same = (plain_is_simple (folded cols scene (first_row_changes scene.line) (other_rows scene.line)) (folded_is_plain cols scene rows)).1 in
-        let f : IsFreshSheet cols s blank (sheet_of characters cols (folded cols scene (first_row_changes scene.line) (other_rows scene.line))) shown =
-        subst (λ (x : Scene). IsFreshSheet cols s blank (sheet_of characters cols x) shown) same (rw e at fresh) in
-        stands cols prompt continuation before rest scene h s shown _ (lines_below cols s scene shown rows f) f.row f.col
+        let at = at_is cols s (other cols scene rows) h.wide (folded_is_plain cols scene rows) in
+        let f : IsFreshSheet cols s blank (sheet_of characters cols (other cols scene rows)) shown = rw e at fresh in
+        stands cols prompt continuation before rest scene h s shown _ (lines_below cols s scene shown rows f) (f.row ∙ ap (λ i. s + i / cols) at) (f.col ∙ ap (λ i. i % cols) at)
     by false e =
         let plain = is_plain_scene cols prompt continuation before rest scene h e in
-        let f : IsFreshSheet cols s blank (sheet_of characters cols scene) shown =
-        subst (λ (x : Scene). IsFreshSheet cols s blank (sheet_of characters cols x) shown) (plain_is_simple scene plain).1 (rw e at fresh) in
-        stands cols prompt continuation before rest scene h s shown (edge_of cols scene) (line_alone cols s scene shown plain.prompt plain.line f) f.row f.col
+        let at = at_is cols s scene h.wide plain in
+        let f : IsFreshSheet cols s blank (sheet_of characters cols scene) shown = rw e at fresh in
+        stands cols prompt continuation before rest scene h s shown (edge_of cols scene) (line_alone cols s scene shown h.wide plain f) (f.row ∙ ap (λ i. s + i / cols) at) (f.col ∙ ap (λ i. i % cols) at)
 
 -- what a host answers shows a line
 pub answers_show_lines : AnswersShowLines

@@ -9,10 +9,10 @@ use Rattle.std.proofs.Math.Seq.{take-append_seam, drop-append_seam}
 use Rattle.tw_surface.specs.declared.measure.Piece.TheVariants.{Cr, Lf, Wide}
 use Rattle.tw_surface.specs.Characters.{is_plain, is_printable, cr, lf}
 use Rattle.tw_surface.specs.Pictures.{blank}
-use Rattle.tw_surface.specs.Places.{Place, plain_piece, next_place, end_of_pieces, places_after, pieces, origin, is_in_range}
+use Rattle.tw_surface.specs.Places.{Place, plain_piece, next_place, end_of_pieces, places_after, pieces, origin, is_in_range, begins_at}
 use Rattle.tw_surface.specs.Positions.{at_least_0}
 use Rattle.tw_surface.proofs.RowLemmas.{plain_from_printable}
-use Rattle.tw_hosts.specs.Settling.{place_after_text, needed_by_text, begins_at, line_start, rows_between, settled_place, settled_pieces, is_settled, is_measured, is_ahead}
+use Rattle.tw_hosts.specs.Settling.{place_after_text, needed_by_text, line_start, rows_between, settled_place, settled_pieces, is_settled, is_measured, is_ahead}
 use Rattle.tw_hosts.proofs.SettlingLemmas.{plain_needs, plain_settles, column_leads_there, cursor_is_settled}
 use Rattle.laws_prompt.specs.Rows.{is_row_character, before_rows, rows_of_text, rows_taken, rows_down, column_after, row_cell, row_edge, spread, columns_behind, shown_cut}
 use Rattle.laws_prompt.specs.RowColumns.{ArePrintableRows, RowColumnLeadsThere, CursorStandsInItsRow, RowColumnIsSettled}

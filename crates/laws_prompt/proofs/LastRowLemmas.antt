@@ -1,5 +1,5 @@
 -- The last row of a painting with nothing under the line.
-use Rattle.std.proofs.Common.{◌≡◌, ℕ, zero, suc, ◌+◌, ◌-◌, ◌/◌, ◌%◌, ◌<◌, ◌≤◌, max, Bool, true, false, ◌&&◌, eqb, ltb, List, [], ◌∷◌, ◌++◌, length, map, refl, ap, sym, ◌∙◌, arith, inl, inr, length-append, append_assoc, append-nil, if◌then◌else◌}
+use Rattle.std.proofs.Common.{◌≡◌, ℕ, zero, suc, ◌+◌, ◌-◌, ◌/◌, ◌%◌, ◌<◌, ◌≤◌, max, Bool, true, false, eqb, List, [], ◌∷◌, ◌++◌, length, refl, ap, sym, ◌∙◌, arith, inl, inr, length-append, append_assoc, append-nil, if◌then◌else◌}
 use Rattle.std.specs.List.{list_all, sum_by}
 use Rattle.std.proofs.lemmas.Bool.{and_parts, and_from, false≢true, cases_eq, eq-eqb, ne_eqb, le-leb}
 use Rattle.std.proofs.lemmas.List.Folds.{list_all-append}
@@ -11,18 +11,14 @@ use Rattle.tw_surface.specs.Characters.{is_printable, cr, lf}
 use Rattle.tw_surface.specs.Fresh.{text_of}
 use Rattle.tw_surface.specs.Lines.{lines_of}
 use Rattle.tw_surface.specs.Paintings.{before_line, edge_space, lower_changes}
-use Rattle.tw_surface.specs.Pictures.{blank}
 use Rattle.tw_surface.specs.Places.{Place, origin, end_of_pieces, pieces, place_after, place_after_all}
 use Rattle.tw_surface.specs.Scenes.{Scene, typed_text}
 use Rattle.tw_surface.specs.Scenes.Lower.{NoLower}
-use Rattle.tw_surface.specs.Simple.{spelled_scene}
-use Rattle.laws_screens.specs.Pens.{letter_cell}
-use Rattle.laws_screens.specs.SceneSheets.{sheet_of, lower_letters}
+use Rattle.laws_screens.specs.SceneSheets.{sheet_of}
 use Rattle.laws_screens.specs.StyledCells.{characters}
-use Rattle.laws_screens.proofs.PlainScenes.{plain_is_simple}
 use Rattle.laws_screens.proofs.PlainTexts.{one_line}
 use Rattle.laws_prompt.specs.Rows.{is_row_character, rows_of_text, rows_taken, rows_down, row_edge, spread, columns_behind}
-use Rattle.laws_prompt.specs.RowScenes.{place_behind, folded}
+use Rattle.laws_screens.specs.RowScenes.{place_behind, folded}
 use Rattle.laws_prompt.specs.PlainRows.{is_row_typing, has_pair, first_row_changes, other_rows, HasPlainRows}
 use Rattle.laws_prompt.specs.RowCells.{ShowsLine, LastRowByDivision}
 use Rattle.laws_prompt.proofs.RowSpreads.{printable-row, edge-printable, some-rows, before-row}
@@ -30,8 +26,8 @@ use Rattle.laws_prompt.proofs.RowTexts.{ends_there, are_rows, rows_plain}
 use Rattle.laws_prompt.proofs.SpreadLines.{edge-off, rows-off-edge, rows-with-edge, both-printable}
 use Rattle.laws_prompt.proofs.TypedColumns.{IsTip, tip-inside, tip-full, after, after-append, plain-pieces}
 use Rattle.laws_prompt.proofs.ColumnLemmas.{spread-tip}
-use Rattle.laws_prompt.proofs.PlainRowLemmas.{typed-both, folded_is_plain}
-use Rattle.laws_prompt.proofs.CellLemmas.{start, edge_of, text-is, printable_typed, unpaired, other, head, below, folded_text, folded_lower, folded_lines, head_rows, line-is, rows-typed, has_rows, is_plain_scene, prompt_tip}
+use Rattle.laws_prompt.proofs.PlainRowLemmas.{typed-both}
+use Rattle.laws_prompt.proofs.CellLemmas.{edge_of, text-is, printable_typed, unpaired, other, head, below, folded_text, folded_lower, folded_lines, head_rows, line-is, rows-typed, has_rows, is_plain_scene, prompt_tip}
 
 -- ---- the rows of the lines
 
@@ -194,7 +190,7 @@ module _ (cols : ℕ) (prompt continuation before rest : List ℕ) (scene : Scen
       let alone = printable-alone cols h.wide continuation h.printable.printable_continuation n text (rw shown at plain) in
       let count : columns_behind (length continuation) n text ≡ length (text_of scene) =
       alone.1 ∙ ap (λ (t : List ℕ). n + length t) (sym (shown ∙ alone.0)) ∙ ap (λ (t : List ℕ). length t + length line) (sym h.prompt_is) ∙ sym (length-append (typed_text scene.prompt) line) in
-      let last : edge_of cols scene ≡ edge = by (ltb 0 (length (text_of scene)) && eqb (length (text_of scene) % cols) 0) ∙ ap (row_edge cols) (sym count) in
+      let last : edge_of cols scene ≡ edge = ap (row_edge cols) (sym count) in
       let all : List ℕ = typed_text scene.prompt ++ (line ++ edge) in
       let one : lines_of all ≡ all ∷ [] =
       one_line all (both-printable (typed_text scene.prompt) (line ++ edge) (printable_typed scene.prompt h.prompt_typing) (both-printable line edge plain (edge-printable cols (columns_behind (length continuation) n text)))) in
@@ -203,24 +199,15 @@ module _ (cols : ℕ) (prompt continuation before rest : List ℕ) (scene : Scen
       let off : length all % cols ≡ 0 → length all ≡ 0 = λ e. long ∙ edge-off cols (length (text_of scene)) h.wide (ap (λ i. i % cols) (sym long) ∙ e) in
       let rows : rows_of_line cols all + 0 ≡ 1 + rows_down cols n (length continuation) (rows_of_text text) =
       sym (sum_by-cons (rows_of_line cols) all []) ∙ ap (sum_by (rows_of_line cols)) (sym one) ∙ summed in
-      let text_is : (sheet_of characters cols scene).text ≡ all = text-is cols scene ∙ ap (λ (l : List ℕ). typed_text scene.prompt ++ (line ++ l)) last in
-      let lower_is : (sheet_of characters cols scene).lower ≡ [] = ap (λ lower. map (map (letter_cell characters)) (lower_letters characters start lower)) bare in
+      let text_is : (sheet_of characters cols scene).text ≡ all = text-is cols scene h.wide (is_plain_scene cols prompt continuation before rest scene h none) ∙ ap (λ (l : List ℕ). typed_text scene.prompt ++ (line ++ l)) last in
+      let lower_is : (sheet_of characters cols scene).lower ≡ [] = ap (λ lower. (sheet_of characters cols (record scene { lower = lower })).lower) bare in
       rw (text_is, lower_is) (omega (arith, rows, rows-off-edge cols (length all) h.wide off))
-    where
-      by : (k : Bool) → map (letter_cell characters) (if k then record { kept = tt; ch = blank } ∷ [] else []) ≡ (if k then blank ∷ [] else [])
-      by true = refl
-      by false = refl
 
 pub last_row_by_division : LastRowByDivision
 last_row_by_division cols prompt continuation before rest scene h bare = by (has_pair scene.line) refl
   where
     by : (k : Bool) → has_pair scene.line ≡ k
-        → sheet_last_row cols (sheet_of characters cols (spelled_scene (if k then folded cols scene (first_row_changes scene.line) (other_rows scene.line) else scene)))
+        → sheet_last_row cols (sheet_of characters cols (if k then folded cols scene (first_row_changes scene.line) (other_rows scene.line) else scene))
         ≡ rows_down cols (length prompt) (length continuation) (rows_of_text (before ++ rest))
-    by true e =
-        let rows = has_rows cols prompt continuation before rest scene h e in
-        ap (λ (x : Scene). sheet_last_row cols (sheet_of characters cols x)) (plain_is_simple (other cols scene rows) (folded_is_plain cols scene rows)).1
-        ∙ last_of_rows cols prompt continuation before rest scene h bare rows
-    by false e =
-        ap (λ (x : Scene). sheet_last_row cols (sheet_of characters cols x)) (plain_is_simple scene (is_plain_scene cols prompt continuation before rest scene h e)).1
-        ∙ last_of_row cols prompt continuation before rest scene h bare e
+    by true e = last_of_rows cols prompt continuation before rest scene h bare (has_rows cols prompt continuation before rest scene h e)
+    by false e = last_of_row cols prompt continuation before rest scene h bare e

@@ -8,17 +8,16 @@ pub mod RowTexts
 pub mod TypedColumns
 pub mod SpreadLines
 pub mod ColumnLemmas
-pub mod RowSceneLemmas
-pub mod RowStationLemmas
+pub mod MeasuredRowLemmas
 pub mod PlainRowLemmas
 pub mod ShownRows
 pub mod CellLemmas
 pub mod AnsweredRowLemmas
 pub mod LastRowLemmas
-pub mod RowRunLemmas
 pub mod LineRunLemmas
-pub mod SentRowLemmas
+pub mod SettledCursorLemmas
 mod WorkedRows
 mod WorkedRowRuns
 mod WorkedRowScenes
 mod WorkedSentRows
+mod WorkedSettledCursors

@@ -1,6 +1,6 @@
 -- Lines of printable rows have rows.
-use Rattle.std.proofs.Common.{◌≡◌, ℕ, ◌+◌, ◌%◌, ◌<◌, ◌||◌, Bool, true, false, List, [], ◌∷◌, ◌++◌, map, length, refl, sym, ap, ◌∙◌, arith, eqb, ltb, append-nil, append_assoc, if◌then◌else◌}
-use Rattle.std.specs.List.{list_all}
+use Rattle.std.proofs.Common.{◌≡◌, ◌≤◌, ℕ, ◌+◌, ◌%◌, ◌<◌, ◌||◌, Bool, true, false, List, [], ◌∷◌, ◌++◌, map, length, refl, sym, ap, ◌∙◌, arith, eqb, ltb, append-nil, append_assoc, if◌then◌else◌}
+use Rattle.std.specs.List.{list_all, AllByRecursion}
 use Rattle.std.proofs.lemmas.Bool.{and_parts, and_from, false≢true}
 use Rattle.std.proofs.lemmas.List.{map-append}
 use Rattle.std.proofs.lemmas.List.Folds.{list_all-append}
@@ -16,13 +16,17 @@ use Rattle.tw_surface.specs.Pictures.{blank}
 use Rattle.tw_surface.specs.Places.{Place, origin}
 use Rattle.tw_surface.specs.Scenes.{Scene, Lower, IsPlain, IsPlainLower, is_text, is_typing, typed_text}
 use Rattle.tw_surface.specs.Scenes.Lower.{NoLower, Preview, Search}
-use Rattle.tw_surface.specs.Simple.{spelled_all, AreCounted}
 use Rattle.laws_screens.specs.Pens.{Pen, kept_after_all, char_stroke, strokes_of}
-use Rattle.laws_screens.proofs.PlainScenes.{plain_chars, plain_is_simple}
+use Rattle.laws_screens.specs.Glyphs.{fits_in}
+use Rattle.laws_screens.proofs.GlyphSeams.{plain_utf8}
+use Rattle.laws_screens.proofs.PlainGlyphs.{plain_from_printable, plain_glyphs, printable_within}
+use Rattle.laws_screens.proofs.PlainScenes.{plain_is_measured}
 use Rattle.laws_screens.proofs.PlainTexts.{text_of_lines-lines}
-use Rattle.laws_prompt.specs.RowScenes.{place_behind, folded}
-use Rattle.laws_prompt.specs.PlainRows.{is_row_typing, has_pair, first_in, first_row_changes, others_in, other_rows, HasPlainRows, PlainRowsAreRows}
-use Rattle.laws_prompt.proofs.RowTexts.{some_lines, are_rows, rows_plain, printable_rows, joined_rows, broken_rows, rows_after}
+use Rattle.laws_screens.specs.RowScenes.{place_behind, folded, HasRows}
+use Rattle.laws_prompt.specs.PlainRows.{is_row_typing, has_pair, first_in, first_row_changes, others_in, other_rows, HasPlainRows}
+use Rattle.laws_prompt.specs.MeasuredRows.{IsMeasuredRow, TypesMeasuredRows, PlainRowsAreMeasured}
+use Rattle.laws_prompt.proofs.MeasuredRowLemmas.{parts_of, measured_rows_are_rows}
+use Rattle.laws_prompt.proofs.RowTexts.{are_rows, rows_plain, printable_rows, joined_rows, broken_rows, rows_after}
 use Rattle.laws_prompt.proofs.TypedColumns.{IsTip, tip-start, tip-full, tip-changes}
 
 -- ---- texts
@@ -57,15 +61,6 @@ text_typed (ClearToEndOfScreen c ∷ more) h = absurd (false≢true h)
 text_typed (CursorPosition p q ∷ more) h = absurd (false≢true h)
 
 -- ---- a text by its lines
-
-pub record TextParts (text : List ℕ) : Type 0 where
-  pub line : List ℕ
-  pub more : List (List ℕ)
-  pub are : lines_of text ≡ line ∷ more
-  pub text_is : text_of_lines (line ∷ more) ≡ text
-
-pub parts_of : (text : List ℕ) → TextParts text
-parts_of text = let it = some_lines text in record { line = it.0; more = it.1; are = it.2; text_is = ap text_of_lines (sym it.2) ∙ text_of_lines-lines text }
 
 lines_printable : (text line : List ℕ) (more : List (List ℕ)) → are_rows text ≡ true → lines_of text ≡ line ∷ more → list_all (list_all is_printable) (line ∷ more) ≡ true
 lines_printable text line more h e = sym (ap (list_all (list_all is_printable)) e) ∙ h
@@ -129,65 +124,6 @@ line_text (ClearScreen c ∷ more) p = line_text more p
 line_text (ClearToEndOfScreen c ∷ more) p = line_text more p
 line_text (CursorPosition x y ∷ more) p = line_text more p
 
--- ---- what it draws
-
-module _ {A C : Type 0} (pen : Pen A C) where
-  -- the strokes of a text, before others
-  text_strokes : (a : A) (text : List ℕ) (more : Batch) → list_all is_plain text ≡ true
-      → strokes_of pen a (spelled_all (Text text ∷ more)) ≡ map (char_stroke pen a) text ++ strokes_of pen a (spelled_all more)
-  text_strokes a text more h = ap (λ (t : List ℕ). map (char_stroke pen a) t ++ strokes_of pen a (spelled_all more)) (plain_chars text h)
-
-  drawn : (a : A) (line : Batch) → list_all is_row_typing line ≡ true → has_pair line ≡ true
-      → strokes_of pen a (spelled_all line) ≡ strokes_of pen a (spelled_all (first_row_changes line)) ++ Return ∷ Feed ∷ strokes_of pen a (spelled_all (other_rows line))
-  drawn a [] h p = absurd (false≢true p)
-  drawn a (Text text ∷ more) h p =
-      let both = and_parts (are_rows text) (list_all is_row_typing more) h in
-      let it = parts_of text in
-      rw it.are (text_strokes a text more (rows_plain text both.0) ∙ by it.line it.more it.text_is (lines_printable text it.line it.more both.0 it.are) (rw it.are at p) (drawn a more both.1))
-    where
-      by : (line : List ℕ) (lines : List (List ℕ)) → text_of_lines (line ∷ lines) ≡ text → list_all (list_all is_printable) (line ∷ lines) ≡ true → (ltb 1 (length (line ∷ lines)) || has_pair more) ≡ true
-          → (has_pair more ≡ true → strokes_of pen a (spelled_all more) ≡ strokes_of pen a (spelled_all (first_row_changes more)) ++ Return ∷ Feed ∷ strokes_of pen a (spelled_all (other_rows more)))
-          → map (char_stroke pen a) text ++ strokes_of pen a (spelled_all more)
-          ≡ strokes_of pen a (spelled_all (first_in (line ∷ lines) (first_row_changes more))) ++ Return ∷ Feed ∷ strokes_of pen a (spelled_all (others_in (line ∷ lines) more (other_rows more)))
-      by line [] is k p rest =
-          let plain = rows_plain line (joined_rows line [] k) in
-          let one : List (Stroke C) = map (char_stroke pen a) line in
-          ap (λ (t : List ℕ). map (char_stroke pen a) t ++ strokes_of pen a (spelled_all more)) (sym is)
-          ∙ ap (λ l. one ++ l) (rest p)
-          ∙ sym (append_assoc one (strokes_of pen a (spelled_all (first_row_changes more))) (Return ∷ Feed ∷ strokes_of pen a (spelled_all (other_rows more))))
-          ∙ ap (λ l. l ++ Return ∷ Feed ∷ strokes_of pen a (spelled_all (other_rows more))) (sym (text_strokes a line (first_row_changes more) plain))
-      by line (next ∷ lines) is k p rest =
-          let q = and_parts (list_all is_printable line) (list_all (list_all is_printable) (next ∷ lines)) k in
-          let below : List ℕ = text_of_lines (next ∷ lines) in
-          let one : List (Stroke C) = map (char_stroke pen a) line in
-          let two : List (Stroke C) = map (char_stroke pen a) below in
-          let left : List (Stroke C) = strokes_of pen a (spelled_all more) in
-          ap (λ (t : List ℕ). map (char_stroke pen a) t ++ left) (sym is)
-          ∙ ap (λ l. l ++ left) (map-append (char_stroke pen a) line (cr ∷ lf ∷ below))
-          ∙ append_assoc one (Return ∷ Feed ∷ two) left
-          ∙ ap (λ l. l ++ Return ∷ Feed ∷ (two ++ left)) (sym (append-nil one) ∙ sym (text_strokes a line [] (rows_plain line (printable_rows line q.0))))
-          ∙ ap (λ l. strokes_of pen a (spelled_all (Text line ∷ [])) ++ Return ∷ Feed ∷ l) (sym (text_strokes a below more (rows_plain below (joined_rows next lines q.1))))
-  drawn a (Attribute x ∷ more) h p = drawn (pen.attribute x a) more h p
-  drawn a (AllAttributes x ∷ more) h p = drawn (pen.attributes x) more h p
-  drawn a (ClearScreen c ∷ more) h p = absurd (false≢true h)
-  drawn a (ClearToEndOfScreen c ∷ more) h p = absurd (false≢true h)
-  drawn a (CursorPosition x y ∷ more) h p = absurd (false≢true h)
-
-  kept : (a : A) (line : Batch) → kept_after_all pen a (spelled_all line) ≡ kept_after_all pen a (spelled_all (other_rows line))
-  kept a [] = refl
-  kept a (Text text ∷ more) = by (lines_of text) (kept a more)
-    where
-      by : (lines : List (List ℕ)) → kept_after_all pen a (spelled_all more) ≡ kept_after_all pen a (spelled_all (other_rows more))
-          → kept_after_all pen a (spelled_all more) ≡ kept_after_all pen a (spelled_all (others_in lines more (other_rows more)))
-      by [] rest = rest
-      by (line ∷ []) rest = rest
-      by (line ∷ next ∷ lines) rest = refl
-  kept a (Attribute x ∷ more) = kept (pen.attribute x a) more
-  kept a (AllAttributes x ∷ more) = kept (pen.attributes x) more
-  kept a (ClearScreen c ∷ more) = kept a more
-  kept a (ClearToEndOfScreen c ∷ more) = kept a more
-  kept a (CursorPosition x y ∷ more) = kept a more
-
 -- ---- the scene
 
 -- what stands under the line, with the CR LF before it
@@ -241,13 +177,6 @@ module _ (cols : ℕ) (scene : Scene) (h : HasPlainRows cols scene) where
         );
       }
 
-  -- the line as a preview is measured by its characters, and so it is
-  line_counted : AreCounted scene.line
-  line_counted =
-      let as_preview : IsPlain (record scene { line = []; lower = Preview scene.line }) =
-      record { prompt = h.prompt; line = refl; lower = (text_typed scene.line h.line, rows_typed scene.line h.line) } in
-      (plain_is_simple (record scene { line = []; lower = Preview scene.line }) as_preview).0.lower.0
-
   off_edge : (place_behind cols scene (first_row_changes scene.line)).x ≡ cols → ⊥
   off_edge full =
       let some : 0 < cols = omega (arith, h.wide) in
@@ -264,12 +193,42 @@ module _ (cols : ℕ) (scene : Scene) (h : HasPlainRows cols scene) where
       let none = h.off_edge (ap (λ (i : ℕ). i % cols) (sym n) ∙ (tip-full cols 0 (0 + length (typed_text text)) (place_behind cols scene (first_row_changes scene.line)) some tip full).col) in
       omega (arith, tip.columns, n, none, full, h.wide)
 
-pub plain_rows_are_rows : {A C : Type 0} (pen : Pen A C) → PlainRowsAreRows pen
-plain_rows_are_rows pen cols scene h = record {
-  wide = h.wide;
-  line = line_counted cols scene h;
-  drawn = drawn pen (pen.attributes default_attributes) scene.line h.line h.pair;
-  kept = kept pen (pen.attributes default_attributes) scene.line;
-  off_edge = off_edge cols scene h;
-  simple = (plain_is_simple (folded cols scene (first_row_changes scene.line) (other_rows scene.line)) (folded_is_plain cols scene h)).0;
-}
+-- ---- it is measured
+
+printable_row : (cols : ℕ) (row : List ℕ) → 2 ≤ cols → list_all is_printable row ≡ true → IsMeasuredRow cols row
+printable_row cols row two h =
+    let plain = plain_from_printable row h in
+    record { utf8 = plain_utf8 row plain; within = ap (list_all (fits_in cols)) (plain_glyphs row plain) ∙ printable_within cols row two h }
+
+printable_lines : (cols : ℕ) (lines : List (List ℕ)) → 2 ≤ cols → list_all (list_all is_printable) lines ≡ true → AllByRecursion (IsMeasuredRow cols) lines
+printable_lines cols [] two h = tt
+printable_lines cols (line ∷ lines) two h =
+    let both = and_parts (list_all is_printable line) (list_all (list_all is_printable) lines) h in
+    (printable_row cols line two both.0, printable_lines cols lines two both.1)
+
+types_measured : (cols : ℕ) (line : Batch) → 2 ≤ cols → list_all is_row_typing line ≡ true → AllByRecursion (TypesMeasuredRows cols) line
+types_measured cols [] two h = tt
+types_measured cols (Text text ∷ more) two h =
+    let both = and_parts (are_rows text) (list_all is_row_typing more) h in
+    (printable_lines cols (lines_of text) two both.0, types_measured cols more two both.1)
+types_measured cols (Attribute a ∷ more) two h = (tt, types_measured cols more two h)
+types_measured cols (AllAttributes a ∷ more) two h = (tt, types_measured cols more two h)
+types_measured cols (ClearScreen c ∷ more) two h = absurd (false≢true h)
+types_measured cols (ClearToEndOfScreen c ∷ more) two h = absurd (false≢true h)
+types_measured cols (CursorPosition x y ∷ more) two h = absurd (false≢true h)
+
+pub plain_rows_are_measured : PlainRowsAreMeasured
+plain_rows_are_measured cols scene h =
+    let first : IsPlain (record scene { line = [] }) = record { prompt = h.prompt; line = refl; lower = h.lower } in
+    let measured = plain_is_measured cols (record scene { line = [] }) h.wide first in
+    record {
+      wide = h.wide;
+      prompt = measured.prompt;
+      line = types_measured cols scene.line h.wide h.line;
+      lower = measured.lower;
+      pair = h.pair;
+      off_edge = off_edge cols scene h;
+    }
+
+pub plain_rows_are_rows : {A C : Type 0} (pen : Pen A C) (cols : ℕ) (scene : Scene) → HasPlainRows cols scene → HasRows pen cols scene (first_row_changes scene.line) (other_rows scene.line)
+plain_rows_are_rows pen cols scene h = measured_rows_are_rows pen cols scene (plain_rows_are_measured cols scene h)

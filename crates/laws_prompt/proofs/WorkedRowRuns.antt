@@ -1,20 +1,23 @@
 -- Worked runs of a host that shows rows, by computation and by the clauses: on a screen that scrolls, and on one that
 -- cuts its rows.
-use Rattle.std.proofs.Common.{◌≡◌, ℕ, zero, suc, ◌+◌, ◌≤◌, pos, List, [], ◌∷◌, take, drop, true, false, refl, sym, subst, None, Some, Option, Ok, Err, Result, arith}
-use Rattle.std.specs.List.{All}
-use Rattle.std.proofs.lemmas.List.Elements.{All-nil, All-cons}
+use Rattle.std.proofs.Common.{◌≡◌, ℕ, zero, suc, ◌+◌, ◌≤◌, pos, List, [], ◌∷◌, take, drop, map, true, false, refl, None, Some, Ok, Err, Result, arith}
+use Rattle.std.proofs.lemmas.List.Elements.{All-nil}
 use Rattle.unicode_segmentation.proofs.Computing.{unicode_segmentation}
-use Rattle.laws_screens.specs.Sheets.{IsLow, sheet_last_row}
+use Rattle.laws_screens.specs.Glyphs.{glyphs}
+use Rattle.laws_screens.specs.PaintedAlike.{IsPaintedAs}
+use Rattle.laws_screens.specs.RowScenes.{folded}
+use Rattle.laws_screens.specs.Sheets.{sheet_last_row}
 use Rattle.laws_screens.specs.Strokes.{PictureOf}
 use Rattle.tw_surface.specs.Paintings.{Painting}
 use Rattle.tw_surface.specs.PaintingBatches.{SizedScene}
 use Rattle.tw_surface.specs.Places.{pieces}
 use Rattle.tw_surface.specs.Scenes.{IsPlain}
 use Rattle.tw_surface.specs.Width.{column_width}
-use Rattle.laws_screens.specs.SceneSheets.{painting_of, sheet_of}
-use Rattle.laws_screens.specs.Screens.{HasRoom}
+use Rattle.laws_screens.specs.SceneSheets.{painting_of}
 use Rattle.laws_screens.specs.StyledCells.{characters}
-use Rattle.laws_screens.proofs.PlainScenes.{plain_is_simple}
+use Rattle.laws_screens.proofs.PaintedAlikeLemmas.{measured_is_itself}
+use Rattle.laws_screens.proofs.PlainScenes.{plain_is_measured}
+use Rattle.laws_screens.proofs.RowSceneLemmas.{rows_are_a_preview}
 use Rattle.tw_input.specs.EventView.{EventView, Key, Resized, Paste}
 use Rattle.tw_input.specs.declared.key.KeyCode.TheVariants.{Char}
 use Rattle.tw_line.specs.Extremes.{iterate, greatest_below, least_from}
@@ -33,17 +36,14 @@ use Rattle.tw_lineedit.specs.Frame.{Frame}
 use Rattle.tw_lineedit.specs.Reading.{start}
 use Rattle.tw_lineedit.specs.ScreenRuns.{sized_scene, RendersNothing}
 use Rattle.tw_lineedit.specs.Stations.{Station, station_painting, stations_of}
-use Rattle.laws_runs.specs.DrawnRuns.{play_stations, play_since, closed_by}
+use Rattle.laws_runs.specs.DrawnRuns.{play_stations, play_since, closed_by, ComesMeasured, ComesHealed}
 use Rattle.laws_prompt.specs.Rows.{shown_cut}
-use Rattle.laws_prompt.specs.RowStations.{IsRowStation, simple_at}
-use Rattle.laws_prompt.specs.RowStations.IsRowStation.{Simple, WithRows}
 use Rattle.laws_prompt.specs.PlainRows.{HasPlainRows, first_row_changes, other_rows}
-use Rattle.laws_prompt.specs.RowRuns.{AreRowStations, painted_with_rows, paintings_with_rows, simple_stations, ComesWithRows, HealsWithRows}
 use Rattle.laws_prompt.specs.RowCells.{ShowsLine, AnswersShownLine}
 use Rattle.laws_prompt.specs.LineRuns.{ComesToLine}
-use Rattle.laws_prompt.proofs.PlainRowLemmas.{plain_rows_are_rows, folded_is_plain}
-use Rattle.laws_runs.proofs.DrawnRunLemmas.{drawn_calls_stack}
-use Rattle.laws_prompt.proofs.RowRunLemmas.{row_paintings, row_closings, row_healings, healed_row_closings}
+use Rattle.laws_prompt.proofs.MeasuredRowLemmas.{plain_rows_are_rows}
+use Rattle.laws_runs.proofs.DrawnRunLemmas.{drawn_calls_stack, drawn_paintings, drawn_closings, drawn_healings, healed_closings}
+use Rattle.laws_runs.proofs.WorkedParts.{all_low}
 use Rattle.laws_prompt.proofs.CellLemmas.{answers_show_lines}
 use Rattle.laws_prompt.proofs.LineRunLemmas.{lines_stand_in_rows}
 use Rattle.laws_prompt.proofs.LastRowLemmas.{last_row_by_division}
@@ -78,15 +78,15 @@ nth [] n = record { state = new_state; value = 0; size = record { rows = 0; cols
 nth (s ∷ more) zero = s
 nth (s ∷ more) (suc n) = nth more n
 
--- plain stations are simple, those of printable rows have rows, and their sheets are those of their bytes
-abbrev pub simple : (station : SizedScene) → 2 ≤ station.cols → IsPlain station.scene → IsRowStation characters station
-simple station two plain = Simple (two, (plain_is_simple station.scene plain).0)
+-- plain stations are painted as themselves, those of printable rows as they are folded
+pub plain_alike : (station : SizedScene) → 2 ≤ station.cols → IsPlain station.scene → IsPaintedAs characters station station
+plain_alike station two plain = measured_is_itself characters station (two, plain_is_measured station.cols station.scene two plain)
 
-abbrev pub with_rows : (station : SizedScene) → HasPlainRows station.cols station.scene → IsRowStation characters station
-with_rows station h = WithRows (first_row_changes station.scene.line) (other_rows station.scene.line) (plain_rows_are_rows characters station.cols station.scene h)
+abbrev pub folded_at : SizedScene → SizedScene
+folded_at station = record station { scene = folded station.cols station.scene (first_row_changes station.scene.line) (other_rows station.scene.line) }
 
-pub room : (rows : Option ℕ) (station : SizedScene) → IsPlain station.scene → IsLow rows station.cols (sheet_of characters station.cols station.scene) → HasRoom rows characters station
-room rows station plain low = subst (λ scene. IsLow rows station.cols (sheet_of characters station.cols scene)) (sym (plain_is_simple station.scene plain).1) low
+pub rows_alike : (station : SizedScene) → HasPlainRows station.cols station.scene → IsPaintedAs characters station (folded_at station)
+rows_alike station h = rows_are_a_preview characters station (first_row_changes station.scene.line) (other_rows station.scene.line) (plain_rows_are_rows characters station.cols station.scene h)
 
 -- ---- eight columns and five rows, entered in the last row: three rows are pasted, "abcdef", "gh" and "ij"
 
@@ -103,29 +103,26 @@ abbrev low_at : ℕ → SizedScene
 low_at n = sized_scene rules (low_station n)
 
 low_wide : (2 ≤ (low_at 0).cols) × ((low_at 1).cols ≡ 8)
-unfolding pieces column_width painted_on apply destination searched_again search_step boundary_below is_boundary iterate greatest_below least_from settled_pieces needed_by_text
+unfolding glyphs pieces column_width painted_on apply destination searched_again search_step boundary_below is_boundary iterate greatest_below least_from settled_pieces needed_by_text
 low_wide = (omega arith, refl)
 
 low_plain : IsPlain (low_at 0).scene
-unfolding pieces column_width painted_on apply destination searched_again search_step boundary_below is_boundary iterate greatest_below least_from settled_pieces needed_by_text
+unfolding glyphs pieces column_width painted_on apply destination searched_again search_step boundary_below is_boundary iterate greatest_below least_from settled_pieces needed_by_text
 low_plain = record { prompt = refl; line = refl; lower = tt }
 
 low_rows : HasPlainRows (low_at 1).cols (low_at 1).scene
-unfolding pieces column_width painted_on apply destination searched_again search_step boundary_below is_boundary iterate greatest_below least_from settled_pieces needed_by_text
+unfolding glyphs pieces column_width painted_on apply destination searched_again search_step boundary_below is_boundary iterate greatest_below least_from settled_pieces needed_by_text
 low_rows = record { wide = omega arith; prompt = refl; line = refl; lower = tt; pair = refl; off_edge = λ e. (let off : 1 ≡ 0 = e in omega (arith, off)) }
 
-abbrev low_are : AreRowStations rules characters (low_station 0 ∷ []) (low_station 1)
-low_are = record { before_it = (simple (low_at 0) low_wide.0 low_plain, tt); it = with_rows (low_at 1) low_rows }
-
 abbrev low_folded : SizedScene
-low_folded = simple_at characters (low_at 1) low_are.it
+low_folded = folded_at (low_at 1)
 
-comes_low : ComesWithRows rules characters (Some 5) low_run (low_station 0 ∷ []) (low_station 1) [] low_are (full 4)
-unfolding pieces column_width painted_on apply destination searched_again search_step boundary_below is_boundary iterate greatest_below least_from settled_pieces needed_by_text
+comes_low : ComesMeasured rules characters (Some 5) low_run (low_station 0 ∷ []) (low_station 1) [] (low_at 0 ∷ []) low_folded (full 4)
+unfolding glyphs pieces column_width painted_on apply destination searched_again search_step boundary_below is_boundary iterate greatest_below least_from settled_pieces needed_by_text
 comes_low = record {
   comes = record { nothing_painted = refl; stations = refl; painting = painting_in (station_painting rules (low_station 1)); painted = refl };
-  low = All-cons (HasRoom (Some 5) characters) (low_at 0) (low_folded ∷ []) (room (Some 5) (low_at 0) low_plain (omega arith))
-      (All-cons (HasRoom (Some 5) characters) low_folded [] (room (Some 5) low_folded (folded_is_plain 8 (low_at 1).scene low_rows) (omega arith)) (All-nil (HasRoom (Some 5) characters)));
+  alike = (plain_alike (low_at 0) low_wide.0 low_plain, (rows_alike (low_at 1) low_rows, tt));
+  low = all_low (Some 5) (low_at 0 ∷ low_folded ∷ []) (omega arith, (omega arith, tt));
   at_start = refl;
   in_sight = omega arith;
 }
@@ -138,30 +135,30 @@ low_closed = closed_by rules characters (Some 5) false 8 8 tt low_run low_shown
 
 -- "> abcdef", an empty row, ". gh" and ". ij" from row 1 on, below what stood there before
 low_by_clause : (low_shown.row ≡ 4) × (low_shown.col ≡ 4) × (low_shown.cell 1 7 ≡ 102) × (low_shown.cell 3 0 ≡ 46) × (low_shown.cell 4 3 ≡ 106) × (low_shown.cell 0 0 ≡ 68)
-unfolding pieces column_width painted_on apply destination searched_again search_step boundary_below is_boundary iterate greatest_below least_from settled_pieces needed_by_text unicode_segmentation
+unfolding glyphs pieces column_width painted_on apply destination searched_again search_step boundary_below is_boundary iterate greatest_below least_from settled_pieces needed_by_text unicode_segmentation
 low_by_clause =
-    let s = (row_paintings rules characters low_run (Some 5) false 8 tt (low_station 0 ∷ []) (low_station 1) [] low_are (full 4) comes_low).shown in
+    let s = (drawn_paintings rules characters low_run (Some 5) false 8 tt (low_station 0 ∷ []) (low_station 1) [] (low_at 0 ∷ []) low_folded (full 4) comes_low).shown in
     (s.fresh.row, s.fresh.col, s.fresh.shown 7 (omega arith), s.fresh.below.0 0 (omega arith), s.fresh.below.1.0 3 (omega arith), s.above 0 0 (omega arith) (omega arith) (omega arith))
 
 low_by_computing : (low_shown.row ≡ 4) × (low_shown.col ≡ 4) × (low_shown.cell 1 7 ≡ 102) × (low_shown.cell 2 0 ≡ 32) × (low_shown.cell 3 0 ≡ 46) × (low_shown.cell 3 3 ≡ 104) × (low_shown.cell 4 3 ≡ 106) × (low_shown.cell 0 0 ≡ 68)
-unfolding pieces column_width painted_on apply destination searched_again search_step boundary_below is_boundary iterate greatest_below least_from settled_pieces needed_by_text unicode_segmentation
+unfolding glyphs pieces column_width painted_on apply destination searched_again search_step boundary_below is_boundary iterate greatest_below least_from settled_pieces needed_by_text unicode_segmentation
 low_by_computing = (refl, refl, refl, refl, refl, refl, refl, refl)
 
 -- the closing batch scrolls it up by a row
 low_closed_by_clause : (low_closed.row ≡ 4) × (low_closed.col ≡ 0) × (low_closed.cell 4 0 ≡ 32)
-unfolding pieces column_width painted_on apply destination searched_again search_step boundary_below is_boundary iterate greatest_below least_from settled_pieces needed_by_text unicode_segmentation
+unfolding glyphs pieces column_width painted_on apply destination searched_again search_step boundary_below is_boundary iterate greatest_below least_from settled_pieces needed_by_text unicode_segmentation
 low_closed_by_clause =
-    let c = (row_closings rules characters low_run (Some 5) false 8 8 tt tt (low_station 0 ∷ []) (low_station 1) [] low_are (full 4) comes_low (All-nil (RendersNothing rules)) (omega arith)).1 in
+    let c = (drawn_closings rules characters low_run (Some 5) false 8 8 tt tt (low_station 0 ∷ []) (low_station 1) [] (low_at 0 ∷ []) low_folded (full 4) comes_low (All-nil (RendersNothing rules)) (omega arith)).1 in
     (c.row, c.col, c.blank_below 4 0 (omega arith) (omega arith))
 
 low_closed_by_computing : (low_closed.row ≡ 4) × (low_closed.col ≡ 0) × (low_closed.cell 0 7 ≡ 102) × (low_closed.cell 3 3 ≡ 106) × (low_closed.cell 4 0 ≡ 32)
-unfolding pieces column_width painted_on apply destination searched_again search_step boundary_below is_boundary iterate greatest_below least_from settled_pieces needed_by_text unicode_segmentation
+unfolding glyphs pieces column_width painted_on apply destination searched_again search_step boundary_below is_boundary iterate greatest_below least_from settled_pieces needed_by_text unicode_segmentation
 low_closed_by_computing = (refl, refl, refl, refl, refl)
 
 -- the host answers the line, so the scene shows it, and each of its characters stands in its cell: "f" at the edge, "g"
 -- after the continuation prompt, "." before "ij", and the cursor after it
 low_answers : AnswersShownLine 8 (62 ∷ 32 ∷ []) (46 ∷ 32 ∷ []) low_text [] (low_at 1).scene
-unfolding pieces column_width painted_on apply destination searched_again search_step boundary_below is_boundary iterate greatest_below least_from settled_pieces needed_by_text unicode_segmentation
+unfolding glyphs pieces column_width painted_on apply destination searched_again search_step boundary_below is_boundary iterate greatest_below least_from settled_pieces needed_by_text unicode_segmentation
 low_answers = record {
   wide = omega arith;
   narrow = omega arith;
@@ -178,7 +175,7 @@ low_line : ShowsLine 8 (62 ∷ 32 ∷ []) (46 ∷ 32 ∷ []) low_text [] (low_at
 low_line = answers_show_lines 8 (62 ∷ 32 ∷ []) (46 ∷ 32 ∷ []) low_text [] (low_at 1).scene low_answers
 
 low_no_line : ShowsLine 8 (62 ∷ 32 ∷ []) (46 ∷ 32 ∷ []) [] [] (low_at 0).scene
-unfolding pieces column_width painted_on apply destination searched_again search_step boundary_below is_boundary iterate greatest_below least_from settled_pieces needed_by_text unicode_segmentation
+unfolding glyphs pieces column_width painted_on apply destination searched_again search_step boundary_below is_boundary iterate greatest_below least_from settled_pieces needed_by_text unicode_segmentation
 low_no_line = record {
   wide = omega arith;
   printable = record { printable_prompt = refl; printable_continuation = refl; rows_before = refl; rows_behind = refl };
@@ -191,7 +188,7 @@ low_no_line = record {
 }
 
 low_to_line : ComesToLine rules (Some 5) low_run (low_station 0 ∷ []) (low_station 1) [] (62 ∷ 32 ∷ []) (46 ∷ 32 ∷ []) low_text [] (full 4)
-unfolding pieces column_width painted_on apply destination searched_again search_step boundary_below is_boundary iterate greatest_below least_from settled_pieces needed_by_text unicode_segmentation
+unfolding glyphs pieces column_width painted_on apply destination searched_again search_step boundary_below is_boundary iterate greatest_below least_from settled_pieces needed_by_text unicode_segmentation
 low_to_line = record {
   comes = comes_low.comes;
   lines = (record { prompt = 62 ∷ 32 ∷ []; continuation = 46 ∷ 32 ∷ []; left = []; right = []; shows = low_no_line }, tt);
@@ -202,7 +199,7 @@ low_to_line = record {
 }
 
 low_cells : (low_shown.cell 1 7 ≡ 102) × (low_shown.cell 3 2 ≡ 103) × (low_shown.cell 1 0 ≡ 62) × (low_shown.cell 4 0 ≡ 46) × (low_shown.row ≡ 4) × (low_shown.col ≡ 4)
-unfolding pieces column_width painted_on apply destination searched_again search_step boundary_below is_boundary iterate greatest_below least_from settled_pieces needed_by_text unicode_segmentation
+unfolding glyphs pieces column_width painted_on apply destination searched_again search_step boundary_below is_boundary iterate greatest_below least_from settled_pieces needed_by_text unicode_segmentation
 low_cells =
     let stand = lines_stand_in_rows rules low_run (Some 5) false 8 (low_station 0 ∷ []) (low_station 1) [] (62 ∷ 32 ∷ []) (46 ∷ 32 ∷ []) low_text [] (full 4) low_to_line in (
       stand.cells (97 ∷ 98 ∷ 99 ∷ 100 ∷ 101 ∷ []) 102 (10 ∷ 103 ∷ 104 ∷ 10 ∷ 105 ∷ 106 ∷ []) refl refl,
@@ -215,16 +212,16 @@ low_cells =
 
 -- and the last row is the third after the first one
 low_last_row : sheet_last_row 8 (painting_of characters low_folded).sheet ≡ 3
-unfolding pieces column_width painted_on apply destination searched_again search_step boundary_below is_boundary iterate greatest_below least_from settled_pieces needed_by_text unicode_segmentation
+unfolding glyphs pieces column_width painted_on apply destination searched_again search_step boundary_below is_boundary iterate greatest_below least_from settled_pieces needed_by_text unicode_segmentation
 low_last_row = last_row_by_division 8 (62 ∷ 32 ∷ []) (46 ∷ 32 ∷ []) low_text [] (low_at 1).scene low_line refl
 
 -- the second row does not begin in the row after the text of the first one, nor is the cursor a row higher
 low_is_down : low_shown.cell 2 2 ≡ 103 → ⊥
-unfolding pieces column_width painted_on apply destination searched_again search_step boundary_below is_boundary iterate greatest_below least_from settled_pieces needed_by_text unicode_segmentation
+unfolding glyphs pieces column_width painted_on apply destination searched_again search_step boundary_below is_boundary iterate greatest_below least_from settled_pieces needed_by_text unicode_segmentation
 low_is_down higher = let off : 32 ≡ 103 = higher in omega (arith, off)
 
 low_is_low : low_shown.row ≡ 3 → ⊥
-unfolding pieces column_width painted_on apply destination searched_again search_step boundary_below is_boundary iterate greatest_below least_from settled_pieces needed_by_text unicode_segmentation
+unfolding glyphs pieces column_width painted_on apply destination searched_again search_step boundary_below is_boundary iterate greatest_below least_from settled_pieces needed_by_text unicode_segmentation
 low_is_low higher = let off : 4 ≡ 3 = higher in omega (arith, off)
 
 -- ---- a second call on the screen that the first one left: "x" and "y" are pasted
@@ -239,29 +236,26 @@ abbrev next_at : ℕ → SizedScene
 next_at n = sized_scene rules (next_station n)
 
 next_wide : 2 ≤ (next_at 0).cols
-unfolding pieces column_width painted_on apply destination searched_again search_step boundary_below is_boundary iterate greatest_below least_from settled_pieces needed_by_text
+unfolding glyphs pieces column_width painted_on apply destination searched_again search_step boundary_below is_boundary iterate greatest_below least_from settled_pieces needed_by_text
 next_wide = omega arith
 
 next_plain : IsPlain (next_at 0).scene
-unfolding pieces column_width painted_on apply destination searched_again search_step boundary_below is_boundary iterate greatest_below least_from settled_pieces needed_by_text
+unfolding glyphs pieces column_width painted_on apply destination searched_again search_step boundary_below is_boundary iterate greatest_below least_from settled_pieces needed_by_text
 next_plain = record { prompt = refl; line = refl; lower = tt }
 
 next_rows : HasPlainRows (next_at 1).cols (next_at 1).scene
-unfolding pieces column_width painted_on apply destination searched_again search_step boundary_below is_boundary iterate greatest_below least_from settled_pieces needed_by_text
+unfolding glyphs pieces column_width painted_on apply destination searched_again search_step boundary_below is_boundary iterate greatest_below least_from settled_pieces needed_by_text
 next_rows = record { wide = omega arith; prompt = refl; line = refl; lower = tt; pair = refl; off_edge = λ e. (let off : 3 ≡ 0 = e in omega (arith, off)) }
 
-abbrev next_are : AreRowStations rules characters (next_station 0 ∷ []) (next_station 1)
-next_are = record { before_it = (simple (next_at 0) next_wide next_plain, tt); it = with_rows (next_at 1) next_rows }
-
 abbrev next_folded : SizedScene
-next_folded = simple_at characters (next_at 1) next_are.it
+next_folded = folded_at (next_at 1)
 
-comes_next : ComesWithRows rules characters (Some 5) next_run (next_station 0 ∷ []) (next_station 1) [] next_are low_closed
-unfolding pieces column_width painted_on apply destination searched_again search_step boundary_below is_boundary iterate greatest_below least_from settled_pieces needed_by_text unicode_segmentation
+comes_next : ComesMeasured rules characters (Some 5) next_run (next_station 0 ∷ []) (next_station 1) [] (next_at 0 ∷ []) next_folded low_closed
+unfolding glyphs pieces column_width painted_on apply destination searched_again search_step boundary_below is_boundary iterate greatest_below least_from settled_pieces needed_by_text unicode_segmentation
 comes_next = record {
   comes = record { nothing_painted = refl; stations = refl; painting = painting_in (station_painting rules (next_station 1)); painted = refl };
-  low = All-cons (HasRoom (Some 5) characters) (next_at 0) (next_folded ∷ []) (room (Some 5) (next_at 0) next_plain (omega arith))
-      (All-cons (HasRoom (Some 5) characters) next_folded [] (room (Some 5) next_folded (folded_is_plain 8 (next_at 1).scene next_rows) (omega arith)) (All-nil (HasRoom (Some 5) characters)));
+  alike = (plain_alike (next_at 0) next_wide next_plain, (rows_alike (next_at 1) next_rows, tt));
+  low = all_low (Some 5) (next_at 0 ∷ next_folded ∷ []) (omega arith, (omega arith, tt));
   at_start = refl;
   in_sight = omega arith;
 }
@@ -271,16 +265,16 @@ next_shown = play_stations rules characters (Some 5) false 8 tt (next_station 0 
 
 -- the rows of the first line stand above it
 stacked_by_clause : (next_shown.row ≡ 4) × (next_shown.cell 3 2 ≡ 120) × (next_shown.cell 1 2 ≡ 103) × (next_shown.cell 2 3 ≡ 106)
-unfolding pieces column_width painted_on apply destination searched_again search_step boundary_below is_boundary iterate greatest_below least_from settled_pieces needed_by_text unicode_segmentation
+unfolding glyphs pieces column_width painted_on apply destination searched_again search_step boundary_below is_boundary iterate greatest_below least_from settled_pieces needed_by_text unicode_segmentation
 stacked_by_clause =
-    let over = (row_paintings rules characters next_run (Some 5) false 8 tt (next_station 0 ∷ []) (next_station 1) [] next_are low_closed comes_next).shown in
-    let closed = (row_closings rules characters low_run (Some 5) false 8 8 tt tt (low_station 0 ∷ []) (low_station 1) [] low_are (full 4) comes_low (All-nil (RendersNothing rules)) (omega arith)).1 in
-    let above = drawn_calls_stack characters (Some 5) false 8 _ _ low_closed next_shown (painted_with_rows rules characters (next_station 1) next_are.it)
-    (paintings_with_rows rules characters (next_station 0 ∷ []) (next_station 1) next_are) closed over in
+    let over = (drawn_paintings rules characters next_run (Some 5) false 8 tt (next_station 0 ∷ []) (next_station 1) [] (next_at 0 ∷ []) next_folded low_closed comes_next).shown in
+    let closed = (drawn_closings rules characters low_run (Some 5) false 8 8 tt tt (low_station 0 ∷ []) (low_station 1) [] (low_at 0 ∷ []) low_folded (full 4) comes_low (All-nil (RendersNothing rules)) (omega arith)).1 in
+    let above = drawn_calls_stack characters (Some 5) false 8 _ _ low_closed next_shown (painting_of characters next_folded)
+    (map (painting_of characters) (next_at 0 ∷ next_folded ∷ [])) closed over in
     (over.fresh.row, over.fresh.shown 2 (omega arith), above 1 2 (omega arith) (omega arith) (omega arith), above 2 3 (omega arith) (omega arith) (omega arith))
 
 stacked_by_computing : (next_shown.row ≡ 4) × (next_shown.cell 3 2 ≡ 120) × (next_shown.cell 1 2 ≡ 103) × (next_shown.cell 2 3 ≡ 106)
-unfolding pieces column_width painted_on apply destination searched_again search_step boundary_below is_boundary iterate greatest_below least_from settled_pieces needed_by_text unicode_segmentation
+unfolding glyphs pieces column_width painted_on apply destination searched_again search_step boundary_below is_boundary iterate greatest_below least_from settled_pieces needed_by_text unicode_segmentation
 stacked_by_computing = (refl, refl, refl, refl)
 
 -- ---- two rows are pasted at four columns, "ab" and "c", and then the screen has three
@@ -295,33 +289,27 @@ abbrev cut_at : ℕ → SizedScene
 cut_at n = sized_scene rules (cut_station n)
 
 cut_wide : 2 ≤ (cut_at 0).cols
-unfolding pieces column_width painted_on apply destination searched_again search_step boundary_below is_boundary iterate greatest_below least_from settled_pieces needed_by_text
+unfolding glyphs pieces column_width painted_on apply destination searched_again search_step boundary_below is_boundary iterate greatest_below least_from settled_pieces needed_by_text
 cut_wide = omega arith
 
 cut_plain : IsPlain (cut_at 0).scene
-unfolding pieces column_width painted_on apply destination searched_again search_step boundary_below is_boundary iterate greatest_below least_from settled_pieces needed_by_text
+unfolding glyphs pieces column_width painted_on apply destination searched_again search_step boundary_below is_boundary iterate greatest_below least_from settled_pieces needed_by_text
 cut_plain = record { prompt = refl; line = refl; lower = tt }
 
 cut_rows : HasPlainRows (cut_at 1).cols (cut_at 1).scene
-unfolding pieces column_width painted_on apply destination searched_again search_step boundary_below is_boundary iterate greatest_below least_from settled_pieces needed_by_text
+unfolding glyphs pieces column_width painted_on apply destination searched_again search_step boundary_below is_boundary iterate greatest_below least_from settled_pieces needed_by_text
 cut_rows = record { wide = omega arith; prompt = refl; line = refl; lower = tt; pair = refl; off_edge = λ e. (let off : 1 ≡ 0 = e in omega (arith, off)) }
 
 narrow_rows : HasPlainRows (cut_at 2).cols (cut_at 2).scene
-unfolding pieces column_width painted_on apply destination searched_again search_step boundary_below is_boundary iterate greatest_below least_from settled_pieces needed_by_text
+unfolding glyphs pieces column_width painted_on apply destination searched_again search_step boundary_below is_boundary iterate greatest_below least_from settled_pieces needed_by_text
 narrow_rows = record { wide = omega arith; prompt = refl; line = refl; lower = tt; pair = refl; off_edge = λ e. (let off : 1 ≡ 0 = e in omega (arith, off)) }
 
-abbrev cut_are : AreRowStations rules characters (cut_station 0 ∷ cut_station 1 ∷ []) (cut_station 2)
-cut_are = record { before_it = (simple (cut_at 0) cut_wide cut_plain, (with_rows (cut_at 1) cut_rows, tt)); it = with_rows (cut_at 2) narrow_rows }
-
--- a screen without a bottom has room for all
-all_low : (stations : List SizedScene) → All (HasRoom None characters) stations
-all_low stations k station h = tt
-
-comes_cut : ComesWithRows rules characters None cut_run (cut_station 0 ∷ cut_station 1 ∷ []) (cut_station 2) [] cut_are (full 1)
-unfolding pieces column_width painted_on apply destination searched_again search_step boundary_below is_boundary iterate greatest_below least_from settled_pieces needed_by_text
+comes_cut : ComesMeasured rules characters None cut_run (cut_station 0 ∷ cut_station 1 ∷ []) (cut_station 2) [] (cut_at 0 ∷ folded_at (cut_at 1) ∷ []) (folded_at (cut_at 2)) (full 1)
+unfolding glyphs pieces column_width painted_on apply destination searched_again search_step boundary_below is_boundary iterate greatest_below least_from settled_pieces needed_by_text
 comes_cut = record {
   comes = record { nothing_painted = refl; stations = refl; painting = painting_in (station_painting rules (cut_station 2)); painted = refl };
-  low = all_low (simple_stations rules characters (cut_station 0 ∷ cut_station 1 ∷ []) (cut_station 2) cut_are);
+  alike = (plain_alike (cut_at 0) cut_wide cut_plain, (rows_alike (cut_at 1) cut_rows, (rows_alike (cut_at 2) narrow_rows, tt)));
+  low = all_low None (cut_at 0 ∷ folded_at (cut_at 1) ∷ folded_at (cut_at 2) ∷ []) (tt, (tt, (tt, tt)));
   at_start = refl;
   in_sight = tt;
 }
@@ -331,13 +319,13 @@ cut_shown = play_stations rules characters None true 4 tt (cut_station 0 ∷ cut
 
 -- "> a", "b" and ". c" from row 1 on, and the cursor after a row that fills its last column
 cut_by_clause : (cut_shown.row ≡ 4) × (cut_shown.col ≡ 0) × (cut_shown.cell 1 2 ≡ 97) × (cut_shown.cell 2 0 ≡ 98) × (cut_shown.cell 3 2 ≡ 99) × (cut_shown.cell 0 2 ≡ 65)
-unfolding pieces column_width painted_on apply destination searched_again search_step boundary_below is_boundary iterate greatest_below least_from settled_pieces needed_by_text unicode_segmentation
+unfolding glyphs pieces column_width painted_on apply destination searched_again search_step boundary_below is_boundary iterate greatest_below least_from settled_pieces needed_by_text unicode_segmentation
 cut_by_clause =
-    let s = (row_paintings rules characters cut_run None true 4 tt (cut_station 0 ∷ cut_station 1 ∷ []) (cut_station 2) [] cut_are (full 1) comes_cut).shown in
+    let s = (drawn_paintings rules characters cut_run None true 4 tt (cut_station 0 ∷ cut_station 1 ∷ []) (cut_station 2) [] (cut_at 0 ∷ folded_at (cut_at 1) ∷ []) (folded_at (cut_at 2)) (full 1) comes_cut).shown in
     (s.fresh.row, s.fresh.col, s.fresh.shown 2 (omega arith), s.fresh.shown 3 (omega arith), s.fresh.below.0 2 (omega arith), s.above 0 2 (omega arith) (omega arith) (omega arith))
 
 cut_by_computing : (cut_shown.row ≡ 4) × (cut_shown.col ≡ 0) × (cut_shown.cell 1 2 ≡ 97) × (cut_shown.cell 2 0 ≡ 98) × (cut_shown.cell 2 1 ≡ 32) × (cut_shown.cell 3 2 ≡ 99) × (cut_shown.cell 0 2 ≡ 65)
-unfolding pieces column_width painted_on apply destination searched_again search_step boundary_below is_boundary iterate greatest_below least_from settled_pieces needed_by_text unicode_segmentation
+unfolding glyphs pieces column_width painted_on apply destination searched_again search_step boundary_below is_boundary iterate greatest_below least_from settled_pieces needed_by_text unicode_segmentation
 cut_by_computing = (refl, refl, refl, refl, refl, refl, refl)
 
 -- ---- the same rows are pasted at three columns, and the screen is cleared by a Repaint
@@ -352,18 +340,16 @@ abbrev healed_at : ℕ → SizedScene
 healed_at n = sized_scene rules (healed_station n)
 
 cleared_rows : HasPlainRows (healed_at 2).cols (healed_at 2).scene
-unfolding pieces column_width painted_on apply destination searched_again search_step boundary_below is_boundary iterate greatest_below least_from settled_pieces needed_by_text
+unfolding glyphs pieces column_width painted_on apply destination searched_again search_step boundary_below is_boundary iterate greatest_below least_from settled_pieces needed_by_text
 cleared_rows = record { wide = omega arith; prompt = refl; line = refl; lower = tt; pair = refl; off_edge = λ e. (let off : 1 ≡ 0 = e in omega (arith, off)) }
 
-abbrev healed_are : AreRowStations rules characters [] (healed_station 2)
-healed_are = record { before_it = tt; it = with_rows (healed_at 2) cleared_rows }
-
-heals : HealsWithRows rules characters None healed_run (healed_station 0 ∷ healed_station 1 ∷ []) [] (healed_station 2) [] healed_are
-unfolding pieces column_width painted_on apply destination searched_again search_step boundary_below is_boundary iterate greatest_below least_from settled_pieces needed_by_text
+heals : ComesHealed rules characters None healed_run (healed_station 0 ∷ healed_station 1 ∷ []) [] (healed_station 2) [] [] (folded_at (healed_at 2))
+unfolding glyphs pieces column_width painted_on apply destination searched_again search_step boundary_below is_boundary iterate greatest_below least_from settled_pieces needed_by_text
 heals = record {
   comes = record { nothing_painted = refl; stations = refl; painting = painting_in (station_painting rules (healed_station 2)); painted = refl };
   cleared = refl;
-  low = all_low (simple_stations rules characters [] (healed_station 2) healed_are);
+  alike = (rows_alike (healed_at 2) cleared_rows, tt);
+  low = all_low None (folded_at (healed_at 2) ∷ []) (tt, tt);
   in_sight = tt;
 }
 
@@ -372,23 +358,23 @@ healed_shown before = play_since rules characters None false 3 tt (healed_statio
 
 -- from row 0 on it is fresh, whatever the screen showed
 healed_by_clause : (before : PictureOf ℕ) → ((healed_shown before).row ≡ 3) × ((healed_shown before).col ≡ 0) × ((healed_shown before).cell 1 0 ≡ 98) × ((healed_shown before).cell 2 2 ≡ 99)
-unfolding pieces column_width painted_on apply destination searched_again search_step boundary_below is_boundary iterate greatest_below least_from settled_pieces needed_by_text unicode_segmentation
+unfolding glyphs pieces column_width painted_on apply destination searched_again search_step boundary_below is_boundary iterate greatest_below least_from settled_pieces needed_by_text unicode_segmentation
 healed_by_clause before =
-    let f = (row_healings rules characters healed_run None (healed_station 0 ∷ healed_station 1 ∷ []) [] (healed_station 2) [] healed_are heals).fresh false 3 tt before in
+    let f = (drawn_healings rules characters healed_run None (healed_station 0 ∷ healed_station 1 ∷ []) [] (healed_station 2) [] [] (folded_at (healed_at 2)) heals).fresh false 3 tt before in
     (f.row, f.col, f.shown 3 (omega arith), f.below.0 2 (omega arith))
 
 healed_by_computing : (before : PictureOf ℕ) → ((healed_shown before).row ≡ 3) × ((healed_shown before).col ≡ 0) × ((healed_shown before).cell 1 0 ≡ 98) × ((healed_shown before).cell 2 2 ≡ 99) × ((healed_shown before).cell 3 0 ≡ 32)
-unfolding pieces column_width painted_on apply destination searched_again search_step boundary_below is_boundary iterate greatest_below least_from settled_pieces needed_by_text unicode_segmentation
+unfolding glyphs pieces column_width painted_on apply destination searched_again search_step boundary_below is_boundary iterate greatest_below least_from settled_pieces needed_by_text unicode_segmentation
 healed_by_computing before = (refl, refl, refl, refl, refl)
 
 -- and the closing batch ends below it, where the last row fills its last column too
 healed_closed_by_clause : (before : PictureOf ℕ) → let after = closed_by rules characters None false 3 7 tt healed_run (healed_shown before) in (after.row ≡ 4) × (after.col ≡ 0)
-unfolding pieces column_width painted_on apply destination searched_again search_step boundary_below is_boundary iterate greatest_below least_from settled_pieces needed_by_text unicode_segmentation
+unfolding glyphs pieces column_width painted_on apply destination searched_again search_step boundary_below is_boundary iterate greatest_below least_from settled_pieces needed_by_text unicode_segmentation
 healed_closed_by_clause before =
-    let c = (healed_row_closings rules characters healed_run None (healed_station 0 ∷ healed_station 1 ∷ []) [] (healed_station 2) [] healed_are heals (All-nil (RendersNothing rules))).1 false 3 7 tt tt before (omega arith) in
+    let c = (healed_closings rules characters healed_run None (healed_station 0 ∷ healed_station 1 ∷ []) [] (healed_station 2) [] [] (folded_at (healed_at 2)) heals (All-nil (RendersNothing rules))).1 false 3 7 tt tt before (omega arith) in
     (c.row, c.col)
 
 -- a character of the first painting does not stay
 healed_is_fresh : (before : PictureOf ℕ) → (healed_shown before).cell 0 3 ≡ 98 → ⊥
-unfolding pieces column_width painted_on apply destination searched_again search_step boundary_below is_boundary iterate greatest_below least_from settled_pieces needed_by_text unicode_segmentation
+unfolding glyphs pieces column_width painted_on apply destination searched_again search_step boundary_below is_boundary iterate greatest_below least_from settled_pieces needed_by_text unicode_segmentation
 healed_is_fresh before stale = let off : 32 ≡ 98 = stale in omega (arith, off)

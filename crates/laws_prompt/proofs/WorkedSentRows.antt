@@ -2,7 +2,7 @@
 -- that is a little off does not hold.
 use Rattle.std.proofs.Common.{◌≡◌, ℕ, ◌+◌, ◌≤◌, [], ◌∷◌, false, refl, ap, Some, map, min, ◌∙◌, arith}
 use Rattle.std.specs.List.{AllByRecursion}
-use Rattle.std.proofs.lemmas.List.Elements.{All-nil, All-cons}
+use Rattle.std.proofs.lemmas.List.Elements.{All-nil}
 use Rattle.std.specs.Fmt.{digits}
 use Rattle.unicode_segmentation.proofs.Computing.{unicode_segmentation}
 use Rattle.laws_screens.specs.Strokes.{PictureOf}
@@ -11,7 +11,7 @@ use Rattle.tw_surface.specs.PaintingBatches.{SizedScene}
 use Rattle.tw_surface.specs.Places.{pieces}
 use Rattle.tw_surface.specs.Scenes.{IsPlain}
 use Rattle.tw_surface.specs.Width.{column_width}
-use Rattle.laws_screens.specs.Screens.{HasRoom}
+use Rattle.laws_screens.specs.Glyphs.{glyphs}
 use Rattle.laws_screens.specs.StyledCells.{characters}
 use Rattle.tw_input.specs.EventView.{Paste}
 use Rattle.tw_line.specs.Boundaries.{boundary_below, is_boundary}
@@ -29,19 +29,18 @@ use Rattle.tw_ansi.specs.EcmaBatches.{first_picture}
 use Rattle.tw_ansi.specs.EcmaScreen.{EcmaScreen, receive_all}
 use Rattle.tw_ansi.specs.EcmaScreen as terminal
 use Rattle.tw_ansi.proofs.EcmaBatches.{first_is_shown}
-use Rattle.laws_runs.specs.SentRuns.{IsSentAt, sent_paintings, sent_run}
-use Rattle.laws_runs.proofs.WorkedParts.{carries}
-use Rattle.laws_prompt.specs.RowStations.{simple_at}
+use Rattle.tw_ansi.proofs.EcmaPaintings.{plain_sent}
+use Rattle.laws_runs.specs.DrawnRuns.{ComesMeasured}
+use Rattle.laws_runs.specs.SentRuns.{ComesSent, IsSentAt, sent_paintings, sent_run}
+use Rattle.laws_runs.proofs.ClosingLemmas.{closings_are_shown}
+use Rattle.laws_runs.proofs.SentLemmas.{paintings_are_shown}
+use Rattle.laws_runs.proofs.WorkedParts.{all_low, carries, joins}
 use Rattle.laws_prompt.specs.PlainRows.{HasPlainRows}
-use Rattle.laws_prompt.specs.RowRuns.{AreRowStations, ComesWithRows}
-use Rattle.laws_prompt.specs.SentRows.{ComesSentWithRows}
-use Rattle.laws_prompt.proofs.PlainRowLemmas.{folded_is_plain}
-use Rattle.laws_prompt.proofs.SentRowLemmas.{row_paintings_are_shown, row_closings_are_shown}
-use Rattle.laws_prompt.proofs.WorkedRowRuns.{rules, frame_with, nth, painting_in, simple, with_rows, room}
+use Rattle.laws_prompt.proofs.WorkedRowRuns.{rules, frame_with, nth, painting_in, plain_alike, folded_at, rows_alike}
 
 -- four rows of A, of B, of C and of D, the cursor at the start of the last one
 abbrev full : EcmaScreen ℕ
-full = record { cell = λ r c. 65 + r; row = 3; col = 0; waits = false; rendition = default_attributes; reading = terminal.Text }
+full = record { cell = λ r c. 65 + r; row = 3; col = 0; waits = false; last = 0; rendition = default_attributes; reading = terminal.Text }
 
 abbrev before : PictureOf ℕ
 before = first_picture characters 4 full
@@ -58,41 +57,38 @@ abbrev at : ℕ → SizedScene
 at n = sized_scene rules (station n)
 
 wide : 2 ≤ (at 0).cols
-unfolding pieces column_width painted_on apply destination searched_again search_step boundary_below is_boundary iterate greatest_below least_from settled_pieces needed_by_text
+unfolding glyphs pieces column_width painted_on apply destination searched_again search_step boundary_below is_boundary iterate greatest_below least_from settled_pieces needed_by_text
 wide = omega arith
 
 plain : IsPlain (at 0).scene
-unfolding pieces column_width painted_on apply destination searched_again search_step boundary_below is_boundary iterate greatest_below least_from settled_pieces needed_by_text
+unfolding glyphs pieces column_width painted_on apply destination searched_again search_step boundary_below is_boundary iterate greatest_below least_from settled_pieces needed_by_text
 plain = record { prompt = refl; line = refl; lower = tt }
 
 rows : HasPlainRows (at 1).cols (at 1).scene
-unfolding pieces column_width painted_on apply destination searched_again search_step boundary_below is_boundary iterate greatest_below least_from settled_pieces needed_by_text
+unfolding glyphs pieces column_width painted_on apply destination searched_again search_step boundary_below is_boundary iterate greatest_below least_from settled_pieces needed_by_text
 rows = record { wide = omega arith; prompt = refl; line = refl; lower = tt; pair = refl; off_edge = λ e. (let off : 1 ≡ 0 = e in omega (arith, off)) }
 
-abbrev are : AreRowStations rules characters (station 0 ∷ []) (station 1)
-are = record { before_it = (simple (at 0) wide plain, tt); it = with_rows (at 1) rows }
-
 abbrev shown_as : SizedScene
-shown_as = simple_at characters (at 1) are.it
+shown_as = folded_at (at 1)
 
-comes : ComesWithRows rules characters (Some 4) run (station 0 ∷ []) (station 1) [] are before
-unfolding pieces column_width painted_on apply destination searched_again search_step boundary_below is_boundary iterate greatest_below least_from settled_pieces needed_by_text
+comes : ComesMeasured rules characters (Some 4) run (station 0 ∷ []) (station 1) [] (at 0 ∷ []) shown_as before
+unfolding glyphs pieces column_width painted_on apply destination searched_again search_step boundary_below is_boundary iterate greatest_below least_from settled_pieces needed_by_text
 comes = record {
   comes = record { nothing_painted = refl; stations = refl; painting = painting_in (station_painting rules (station 1)); painted = refl };
-  low = All-cons (HasRoom (Some 4) characters) (at 0) (shown_as ∷ []) (room (Some 4) (at 0) plain (omega arith))
-      (All-cons (HasRoom (Some 4) characters) shown_as [] (room (Some 4) shown_as (folded_is_plain 4 (at 1).scene rows) (omega arith)) (All-nil (HasRoom (Some 4) characters)));
+  alike = (plain_alike (at 0) wide plain, (rows_alike (at 1) rows, tt));
+  low = all_low (Some 4) (at 0 ∷ shown_as ∷ []) (omega arith, (omega arith, tt));
   at_start = refl;
   in_sight = omega arith;
 }
 
 sendable : AllByRecursion (IsSentAt 4 4) (map (sized_scene rules) (station 0 ∷ station 1 ∷ []))
-unfolding pieces column_width painted_on apply destination searched_again search_step boundary_below is_boundary iterate greatest_below least_from settled_pieces needed_by_text
+unfolding glyphs pieces column_width painted_on apply destination searched_again search_step boundary_below is_boundary iterate greatest_below least_from settled_pieces needed_by_text
 sendable = (
-  record { cols = refl; showable = record { typed = record { prompt = (refl, tt); line = (refl, tt); lower = tt }; near = omega arith; back = omega arith; under = omega arith } },
-  (record { cols = refl; showable = record { typed = record { prompt = (refl, tt); line = (refl, tt); lower = tt }; near = omega arith; back = omega arith; under = omega arith } }, tt),
+  record { cols = refl; showable = record { typed = record { prompt = (plain_sent 4 _ refl, tt); line = (plain_sent 4 _ refl, tt); lower = tt }; near = omega arith; back = omega arith; under = omega arith } },
+  (record { cols = refl; showable = record { typed = record { prompt = (plain_sent 4 _ refl, tt); line = (plain_sent 4 _ refl, tt); lower = tt }; near = omega arith; back = omega arith; under = omega arith } }, tt),
 )
 
-sent : ComesSentWithRows rules characters 4 4 run (station 0 ∷ []) (station 1) [] are (first_known 4) full before
+sent : ComesSent rules characters 4 4 run (station 0 ∷ []) (station 1) [] (at 0 ∷ []) shown_as (first_known 4) full before
 sent = record { comes = comes; sent = sendable; narrow = omega arith; color = tt; shows = first_is_shown characters 4 4 full (omega arith) (omega arith) refl refl refl refl }
 
 abbrev bytes : Sent
@@ -103,9 +99,9 @@ after = receive_all characters 4 4 bytes.bytes full
 
 -- "> ab" in the second row, a blank row, and ". c", by the law
 by_law : (after.row ≡ 3) × (after.col ≡ 3) × (after.cell 1 3 ≡ 98) × (after.cell 3 2 ≡ 99) × (after.cell 0 0 ≡ 67)
-unfolding pieces column_width painted_on apply destination searched_again search_step boundary_below is_boundary iterate greatest_below least_from settled_pieces needed_by_text unicode_segmentation
+unfolding glyphs pieces column_width painted_on apply destination searched_again search_step boundary_below is_boundary iterate greatest_below least_from settled_pieces needed_by_text unicode_segmentation
 by_law =
-    let s = row_paintings_are_shown rules characters run 4 4 (station 0 ∷ []) (station 1) [] are (first_known 4) full before carries sent in
+    let s = paintings_are_shown characters rules run 4 4 (station 0 ∷ []) (station 1) [] (at 0 ∷ []) shown_as (first_known 4) full before carries joins sent in
     let fresh = s.1.shown.fresh in (
       s.0.row ∙ fresh.row,
       s.0.col ∙ ap (λ c. min c 3) fresh.col,
@@ -116,12 +112,12 @@ by_law =
 
 -- and by the bytes
 by_bytes : (after.row ≡ 3) × (after.col ≡ 3) × (after.cell 1 3 ≡ 98) × (after.cell 2 0 ≡ 32) × (after.cell 3 2 ≡ 99) × (after.cell 0 0 ≡ 67)
-unfolding pieces column_width painted_on apply destination searched_again search_step boundary_below is_boundary iterate greatest_below least_from settled_pieces needed_by_text unicode_segmentation digits
+unfolding glyphs pieces column_width painted_on apply destination searched_again search_step boundary_below is_boundary iterate greatest_below least_from settled_pieces needed_by_text unicode_segmentation digits
 by_bytes = (refl, refl, refl, refl, refl, refl)
 
 -- the second row does not stand right under the text of the first one
 is_down : after.cell 2 2 ≡ 99 → ⊥
-unfolding pieces column_width painted_on apply destination searched_again search_step boundary_below is_boundary iterate greatest_below least_from settled_pieces needed_by_text unicode_segmentation digits
+unfolding glyphs pieces column_width painted_on apply destination searched_again search_step boundary_below is_boundary iterate greatest_below least_from settled_pieces needed_by_text unicode_segmentation digits
 is_down higher = let off : 32 ≡ 99 = higher in omega (arith, off)
 
 -- ---- and its closing batch
@@ -130,21 +126,21 @@ abbrev closed : EcmaScreen ℕ
 closed = receive_all characters 4 4 (sent_run rules run (station 0 ∷ station 1 ∷ []) (first_known 4)).bytes full
 
 closed_by_law : (closed.row ≡ 3) × (closed.col ≡ 0) × (closed.cell 3 0 ≡ 32)
-unfolding pieces column_width painted_on apply destination searched_again search_step boundary_below is_boundary iterate greatest_below least_from settled_pieces needed_by_text unicode_segmentation
+unfolding glyphs pieces column_width painted_on apply destination searched_again search_step boundary_below is_boundary iterate greatest_below least_from settled_pieces needed_by_text unicode_segmentation
 closed_by_law =
-    let s = row_closings_are_shown rules characters run 4 4 (station 0 ∷ []) (station 1) [] are (first_known 4) full before carries sent (All-nil (RendersNothing rules)) in
-    let shown = s.1 in
-    let below = s.2 in (
+    let s = closings_are_shown characters rules run 4 4 (station 0 ∷ []) (station 1) [] (at 0 ∷ []) shown_as (first_known 4) full before carries joins sent (All-nil (RendersNothing rules)) in
+    let shown = s.1.0 in
+    let below = s.1.1 in (
       shown.row ∙ below.row,
       shown.col ∙ ap (λ c. min c 3) below.col,
       shown.cells 3 0 (omega arith) (omega arith) ∙ below.blank_below 3 0 (omega (arith, below.row)) (omega arith),
     )
 
 closed_by_bytes : (closed.row ≡ 3) × (closed.col ≡ 0) × (closed.cell 0 3 ≡ 98) × (closed.cell 2 2 ≡ 99) × (closed.cell 3 0 ≡ 32)
-unfolding pieces column_width painted_on apply destination searched_again search_step boundary_below is_boundary iterate greatest_below least_from settled_pieces needed_by_text unicode_segmentation digits
+unfolding glyphs pieces column_width painted_on apply destination searched_again search_step boundary_below is_boundary iterate greatest_below least_from settled_pieces needed_by_text unicode_segmentation digits
 closed_by_bytes = (refl, refl, refl, refl, refl)
 
 -- the row of the line is not cleared
 closing_keeps : closed.cell 2 2 ≡ 32 → ⊥
-unfolding pieces column_width painted_on apply destination searched_again search_step boundary_below is_boundary iterate greatest_below least_from settled_pieces needed_by_text unicode_segmentation digits
+unfolding glyphs pieces column_width painted_on apply destination searched_again search_step boundary_below is_boundary iterate greatest_below least_from settled_pieces needed_by_text unicode_segmentation digits
 closing_keeps gone = let off : 99 ≡ 32 = gone in omega (arith, off)

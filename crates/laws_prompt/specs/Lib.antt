@@ -3,11 +3,9 @@ pub mod MenuRuns
 pub mod SearchEnds
 pub mod Rows
 pub mod RowColumns
-pub mod RowScenes
-pub mod RowStations
 pub mod PlainRows
+pub mod MeasuredRows
 pub mod RowCells
 pub mod AnsweredRows
-pub mod RowRuns
-pub mod SentRows
 pub mod LineRuns
+pub mod SettledCursors

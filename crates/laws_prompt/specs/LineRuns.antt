@@ -26,7 +26,7 @@ pub record ShowsSomeLine (station : SizedScene) : Type 0 where
   pub right : List ℕ
   pub shows : ShowsLine station.cols prompt continuation left right station.scene
 
--- the simple station that it is painted as
+-- the plain station that it is painted as
 abbrev pub plain_station : SizedScene → SizedScene
 plain_station station = record station { scene = plain_folded station.cols station.scene }
 
@@ -49,24 +49,34 @@ module _ {V : Type 0} (rules : HostRules V) where
     pub at_start : screen.col ≡ 0
     pub in_sight : InSight rows screen.row
 
-  -- Then the cursor, the prompts and each character of the line stand in their cells, from the row on to which the
-  -- paintings so far have gone up.
+  -- The prompts, each character of a line and the cursor stand in their cells, from the row on to which the paintings of
+  -- some stations have gone up, and so on a screen that was entered where it stands before.
+  abbrev pub LineStands : Option ℕ → Bool → ℕ → ℕ → List (Station V) → List ℕ → List ℕ → List ℕ → List ℕ → PictureOf ℕ → Type 0
+  LineStands rows cuts v cols stations prompt continuation left right screen =
+      StandInRows cols (top_row rows screen.row (line_paintings stations)) prompt continuation left right (play_stations rules characters rows cuts v tt stations screen)
+
+  -- So they do once the station is painted.
   abbrev pub LinesStandInRows : Type 0
   LinesStandInRows = (f : Frame V) (rows : Option ℕ) (cuts : Bool) (v : ℕ) (earlier : List (Station V)) (station : Station V) (later : List (Station V))
       (prompt continuation left right : List ℕ) (screen : PictureOf ℕ)
       → ComesToLine rows f earlier station later prompt continuation left right screen
-      → let top = top_row rows screen.row (line_paintings (earlier ++ station ∷ [])) in
-      StandInRows station.size.cols top prompt continuation left right (play_stations rules characters rows cuts v tt (earlier ++ station ∷ []) screen)
+      → LineStands rows cuts v station.size.cols (earlier ++ station ∷ []) prompt continuation left right screen
 
-  -- With nothing under the last line that is painted, the closing batch leaves the cursor in the row below that of the
-  -- cell after the line.
+  -- nothing stands under the line
+  abbrev pub IsBare : Station V → Type 0
+  IsBare station = (sized_scene rules station).scene.lower ≡ NoLower
+
+  -- the closing batch, at w columns, leaves the cursor in the row below that of the cell after a line
+  abbrev pub LineEnds : Option ℕ → Bool → ℕ → ℕ → ℕ → Frame V → List (Station V) → List ℕ → List ℕ → List ℕ → PictureOf ℕ → Type 0
+  LineEnds rows cuts v w cols f stations prompt continuation line screen =
+      let last = top_row rows screen.row (line_paintings stations) + rows_down cols (length prompt) (length continuation) (rows_of_text line) in
+      let shown = play_stations rules characters rows cuts v tt stations screen in
+      IsClosedSheet rows w blank last (resized cuts blank cols w shown) (closed_by rules characters rows cuts cols w tt f shown)
+
+  -- So it does after the last line that is painted, with nothing under it.
   abbrev pub LinesCloseBelow : Type 0
   LinesCloseBelow = (f : Frame V) (rows : Option ℕ) (cuts : Bool) (v w : ℕ) (earlier : List (Station V)) (station : Station V) (later : List (Station V))
       (prompt continuation left right : List ℕ) (screen : PictureOf ℕ)
       → ComesToLine rows f earlier station later prompt continuation left right screen
-      → (sized_scene rules station).scene.lower ≡ NoLower → All (RendersNothing rules) later → 2 ≤ w
-      → let cols = station.size.cols in
-      let top = top_row rows screen.row (line_paintings (earlier ++ station ∷ [])) in
-      let last = top + rows_down cols (length prompt) (length continuation) (rows_of_text (left ++ right)) in
-      let shown = play_stations rules characters rows cuts v tt (earlier ++ station ∷ []) screen in
-      IsClosedSheet rows w blank last (resized cuts blank cols w shown) (closed_by rules characters rows cuts cols w tt f shown)
+      → IsBare station → All (RendersNothing rules) later → 2 ≤ w
+      → LineEnds rows cuts v w station.size.cols f (earlier ++ station ∷ []) prompt continuation (left ++ right) screen

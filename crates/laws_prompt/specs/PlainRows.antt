@@ -6,8 +6,7 @@ use Rattle.tw_surface.specs.ChangeView.{Attribute, AllAttributes, Text, ClearScr
 use Rattle.tw_surface.specs.Characters.{is_printable}
 use Rattle.tw_surface.specs.Lines.{lines_of, text_of_lines}
 use Rattle.tw_surface.specs.Scenes.{Scene, IsPlainLower, is_typing, typed_text}
-use Rattle.laws_screens.specs.Pens.{Pen}
-use Rattle.laws_prompt.specs.RowScenes.{HasRows, folded}
+use Rattle.laws_screens.specs.RowScenes.{folded}
 
 -- an attribute, or a text of printable lines with CR LF between each two
 abbrev pub is_row_typing : ChangeView → Bool
@@ -68,10 +67,6 @@ pub record HasPlainRows (cols : ℕ) (scene : Scene) : Type 0 where
   pub pair : has_pair scene.line ≡ true
   pub off_edge : let n = length (typed_text scene.prompt ++ typed_text (first_row_changes scene.line)) in n % cols ≡ 0 → n ≡ 0
 
--- It has rows, for every pen.
-abbrev pub PlainRowsAreRows : {A C : Type 0} → Pen A C → Type 0
-PlainRowsAreRows pen = (cols : ℕ) (scene : Scene) → HasPlainRows cols scene → HasRows pen cols scene (first_row_changes scene.line) (other_rows scene.line)
-
--- the simple scene that it is painted as, if it has rows
+-- the plain scene that it is painted as, if it has rows
 abbrev pub plain_folded : ℕ → Scene → Scene
 plain_folded cols scene = if has_pair scene.line then folded cols scene (first_row_changes scene.line) (other_rows scene.line) else scene

@@ -5,10 +5,10 @@ use Rattle.laws_screens.specs.Strokes.{PictureOf}
 use Rattle.laws_screens.specs.Sheets.{IsFreshSheet, sheet_last_row}
 use Rattle.tw_surface.specs.Characters.{lf}
 use Rattle.tw_surface.specs.Paintings.{cursor_place}
-use Rattle.tw_surface.specs.PaintingBatches.{SizedScene}
 use Rattle.tw_surface.specs.Pictures.{blank}
 use Rattle.tw_surface.specs.Scenes.{Scene, IsPlainLower, is_typing, typed_text}
 use Rattle.tw_surface.specs.Scenes.Lower.{NoLower}
+use Rattle.laws_screens.specs.PaintedAlike.{IsPaintedAs}
 use Rattle.laws_screens.specs.Pens.{Pen}
 use Rattle.laws_screens.specs.SceneSheets.{painting_of}
 use Rattle.laws_screens.specs.StyledCells.{characters}
@@ -17,7 +17,6 @@ use Rattle.tw_host.specs.HostRules.{plain_text}
 use Rattle.tw_hosts.specs.Settling.{settled_column}
 use Rattle.laws_prompt.specs.Rows.{rows_of_text, rows_down, column_after, row_cell, shown_cut}
 use Rattle.laws_prompt.specs.RowColumns.{ArePrintableRows}
-use Rattle.laws_prompt.specs.RowStations.{IsRowStation, simple_at}
 use Rattle.laws_prompt.specs.PlainRows.{is_row_typing, plain_folded}
 
 -- A scene shows a line, in whatever colours: its texts are the prompt and the text that shows the line, and its cursor
@@ -49,11 +48,10 @@ abbrev pub AnswersShowLines : Type 0
 AnswersShowLines = (cols : ℕ) (prompt continuation before rest : List ℕ) (scene : Scene)
     → AnswersShownLine cols prompt continuation before rest scene → ShowsLine cols prompt continuation before rest scene
 
--- The station of such a scene is simple or has rows, for every pen.
-abbrev pub ShownLinesAreRowStations : {A C : Type 0} → Pen A C → Type 0
-ShownLinesAreRowStations pen = (cols : ℕ) (prompt continuation before rest : List ℕ) (scene : Scene) → ShowsLine cols prompt continuation before rest scene
-    → let station : SizedScene = record { scene = scene; cols = cols } in
-    (it : IsRowStation pen station) × (simple_at pen station it ≡ record { scene = plain_folded cols scene; cols = cols })
+-- The station of such a scene is painted as a plain one, for every pen.
+abbrev pub ShownLinesArePlain : {A C : Type 0} → Pen A C → Type 0
+ShownLinesArePlain pen = (cols : ℕ) (prompt continuation before rest : List ℕ) (scene : Scene) → ShowsLine cols prompt continuation before rest scene
+    → IsPaintedAs pen (record { scene = scene; cols = cols }) (record { scene = plain_folded cols scene; cols = cols })
 
 -- From row s on, the prompt, the continuation prompt after each line feed, and each character of a line stand in their
 -- cells, and so does the cursor.

@@ -1,7 +1,6 @@
 -- A terminal that may show anything shows a fresh painting after a clearing.
 use Rattle.std.proofs.Common.{◌≡◌, ◌^◌, ◌≤◌, ◌<◌, neg_ℤ, ℕ, true, false, ◌&&◌, Option, Some, None, List, [], ◌∷◌, ◌++◌, map, ap, subst, ◌∙◌, sym, refl, append-nil, arith}
 use Rattle.std.specs.List.{AllByRecursion}
-use Rattle.std.proofs.lemmas.List.{map-append}
 use Rattle.std.proofs.lemmas.Bool.{ne_eqb, false≢true}
 use Rattle.laws_screens.specs.Strokes.{InSight, PictureOf, steps_on, filled}
 use Rattle.laws_screens.specs.Sheets.{IsFreshSheet}
@@ -12,27 +11,26 @@ use Rattle.tw_surface.specs.Defaults.{default_color}
 use Rattle.tw_surface.specs.Paintings.{Mark, painting, mark_of, start_move}
 use Rattle.tw_surface.specs.PaintingBatches.{SizedScene, shot_of, scenes_of, shots, clear_batch, clearing, start_of, batches_after, mark_after}
 use Rattle.laws_screens.specs.Pens.{Pen, strokes_of}
-use Rattle.laws_screens.specs.Screens.{blank_of, play_sized}
-use Rattle.laws_screens.specs.SizedBatches.{sized_at, sized_after, spelled_sized}
+use Rattle.laws_screens.specs.SceneSheets.{painting_of}
+use Rattle.laws_screens.specs.Screens.{begins_cleared, blank_of, play_sized}
+use Rattle.laws_screens.specs.SizedBatches.{sized_at, sized_after}
 use Rattle.laws_screens.proofs.SizedBatchLemmas.{sized_are}
 use Rattle.tw_host.specs.HostRules.{HostRules}
 use Rattle.tw_lineedit.specs.ScreenRuns.{sized_scene}
-use Rattle.laws_runs.specs.DrawnRuns.{begins_cleared, painted_at}
 use Rattle.laws_runs.proofs.DrawnRunLemmas.{drawn_healings}
 use Rattle.tw_ansi.specs.declared.encode.Encoder.{Encoder}
 use Rattle.tw_ansi.specs.Encoding.{Sent, sent_batch, sent_change, at_column}
 use Rattle.tw_ansi.specs.EcmaLaws.{IsColor}
 use Rattle.tw_ansi.specs.EcmaBatches.{CarriesAttributes, IsReached}
-use Rattle.tw_ansi.specs.EcmaPaintings.{AreAllSendable, sent_batches}
+use Rattle.tw_ansi.specs.EcmaPaintings.{IsTypedScene, AreAllSendable, sent_batches}
 use Rattle.tw_ansi.specs.EcmaScreen.{EcmaScreen, receive_all}
 use Rattle.tw_ansi.specs.EcmaScreen as terminal
-use Rattle.tw_ansi.specs.EcmaTexts.{ShowsPicture}
+use Rattle.tw_ansi.specs.EcmaTexts.{ShowsPicture, JoinsMarks}
 use Rattle.tw_ansi.proofs.EcmaClearings.{clears_all}
 use Rattle.tw_ansi.proofs.EcmaSequences.{received}
 use Rattle.tw_ansi.proofs.EcmaPaintings.{painting_knows_color, repainting_is_sendable, later_sendable, batches_are_shown}
 use Rattle.laws_runs.specs.SentRuns.{IsSentAt, HealingsAreShown}
-use Rattle.laws_runs.proofs.SentLemmas.{sized_is, shots_are, scenes_showable, stations_sendable, first_wide}
-use Rattle.laws_runs.proofs.ClosingLemmas.{last_of_all}
+use Rattle.laws_runs.proofs.SentLemmas.{sized_is, shots_are, scenes_showable, stations_sendable, last_cols}
 
 module _ {A C : Type 0} (pen : Pen A C) where
   -- a terminal once its screen is cleared
@@ -81,7 +79,8 @@ module _ {A C : Type 0} (pen : Pen A C) where
       let is : painting w x.scene ≡ painting x.cols x.scene = ap (λ cols. painting cols x.scene) (sym a.0.cols) in
       let first = subst (λ p. AreAllSendable pen h w next ((start_move m ∷ p.changes) ∷ []) drawn) is
       (repainting_is_sendable pen h w m x.scene next drawn some a.0.showable.typed a.0.showable.near (back m refl) color, tt) in
-      let colored : IsColor known.attributes.background = painting_knows_color x.cols x.scene (sent_change (start_move m) next).next a.0.showable.typed in
+      let colored : IsColor known.attributes.background = painting_knows_color x.cols x.scene (sent_change (start_move m) next).next
+      (subst (λ n. IsTypedScene n x.scene) (sym a.0.cols) a.0.showable.typed) in
       let shown : PictureOf C = steps_on (Some h) w (strokes_of pen (pen.attributes next.attributes) begun) drawn in
       let later : AreAllSendable pen h w known rest shown =
       subst (λ (p : _). AreAllSendable pen h w known (batches_after (Some (mark_of p)) (map shot_of xs)) shown) is
@@ -113,34 +112,32 @@ module _ {A C : Type 0} (pen : Pen A C) where
       (λ given. subst (λ u. ShowsPicture pen h w rest.next u s) same given) shows
 
   -- so it shows what the batches of stations leave on an empty picture, from a clearing on, whatever it was
-  pub healed_by : (h w : ℕ) (mark : Option Mark) (xs : List SizedScene) (e : Encoder) (t : EcmaScreen C) → CarriesAttributes pen → 2 ≤ w → w < 2 ^ 64 → InSight (Some h) 0
+  pub healed_by : (h w : ℕ) (mark : Option Mark) (xs : List SizedScene) (e : Encoder) (t : EcmaScreen C) → CarriesAttributes pen → JoinsMarks pen → 2 ≤ w → w < 2 ^ 64 → InSight (Some h) 0
       → AllByRecursion (IsSentAt h w) xs → begins_cleared xs ≡ true → ((m : Mark) → mark ≡ Some m → IsReached h (Relative (neg_ℤ m.row)))
       → IsColor e.attributes.background → t.reading ≡ terminal.Text → t.rendition ≡ e.attributes → e.cols ≡ w
       → let sent = sent_batches (map (λ sized. sized.batch) (sized_after mark xs)) e in
       ShowsPicture pen h w sent.next (receive_all pen h w sent.bytes t)
       (play_sized (Some h) false pen w (pen.attributes e.attributes) (sized_at w (batches_after mark (map shot_of xs))) (filled (blank_of pen)))
-  healed_by h w mark xs e t carries two narrow sight sent cleared back color reading rendition cols =
+  healed_by h w mark xs e t carries joins two narrow sight sent cleared back color reading rendition cols =
       let first : Encoder = at_column 0 e in
       let played : List Batch = batches_after mark (map shot_of xs) in
       let empty : PictureOf C = filled (blank_of pen) in
       let picture : PictureOf C = play_sized (Some h) false pen w (pen.attributes e.attributes) (sized_at w played) empty in
       let sendable : AreAllSendable pen h w first played empty = since_sendable h w mark xs first empty (omega (arith, two)) sent cleared back color (omega (arith, two)) in
-      let shown = batches_are_shown pen h w played first (emptied t) empty carries (omega (arith, two)) narrow sendable (empty_shown h w e t sight (omega (arith, two)) rendition cols) in
+      let shown = batches_are_shown pen h w played first (emptied t) empty carries joins (omega (arith, two)) narrow sendable (empty_shown h w e t sight (omega (arith, two)) rendition cols) in
       subst (λ l. ShowsPicture pen h w (sent_batches l e).next (receive_all pen h w (sent_batches l e).bytes t) picture) (sym (sized_are mark xs))
       (from_anything h w mark xs e t picture cleared color reading rendition shown)
 
   module _ {V : Type 0} (rules : HostRules V) where
     pub healings_are_shown : HealingsAreShown rules pen
-    healings_are_shown f h w earlier since station later e t carries k =
-        let scenes = map-append (sized_scene rules) since (station ∷ []) in
+    healings_are_shown f h w earlier since station later measured last e t carries joins k =
         let xs : List SizedScene = map (sized_scene rules) (since ++ station ∷ []) in
         let mark : Option Mark = mark_after None (map shot_of (map (sized_scene rules) earlier)) in
-        let two : 2 ≤ w = first_wide h w (map (sized_scene rules) since) (sized_scene rules station) (rw scenes at k.comes.simple) (rw scenes at k.sent) in
-        let here : IsSentAt h w (sized_scene rules station) = last_of_all (IsSentAt h w) (sized_scene rules) since station k.sent in
+        let cols = last_cols pen rules h w since station measured last k.comes.alike k.sent in
         let empty : PictureOf C = filled (blank_of pen) in
-        let fresh = (drawn_healings rules pen f (Some h) earlier since station later k.comes).fresh false w (pen.attributes e.attributes) empty in (
+        let fresh = (drawn_healings rules pen f (Some h) earlier since station later measured last k.comes).fresh false w (pen.attributes e.attributes) empty in (
           play_sized (Some h) false pen w (pen.attributes e.attributes) (sized_at w (batches_after mark (map shot_of xs))) empty,
-          healed_by h w mark xs e t carries two k.narrow k.comes.in_sight k.sent k.comes.cleared k.back k.color k.reading k.rendition k.cols,
-          subst (λ l. IsFreshSheet w 0 (blank_of pen) (painted_at rules pen station).sheet (play_sized (Some h) false pen w (pen.attributes e.attributes) l empty)) (sized_is h w mark xs k.sent)
-              (subst (λ n. IsFreshSheet n 0 (blank_of pen) (painted_at rules pen station).sheet (play_sized (Some h) false pen w (pen.attributes e.attributes) (spelled_sized (sized_after mark xs)) empty)) here.cols fresh),
+          healed_by h w mark xs e t carries joins cols.1 k.narrow k.comes.in_sight k.sent k.comes.cleared k.back k.color k.reading k.rendition k.cols,
+          subst (λ l. IsFreshSheet w 0 (blank_of pen) (painting_of pen last).sheet (play_sized (Some h) false pen w (pen.attributes e.attributes) l empty)) (sized_is h w mark xs k.sent)
+              (subst (λ n. IsFreshSheet n 0 (blank_of pen) (painting_of pen last).sheet (play_sized (Some h) false pen w (pen.attributes e.attributes) (sized_after mark xs) empty)) cols.0 fresh),
         )

@@ -1,9 +1,13 @@
 -- A terminal that is sent paintings stays at rest under the attributes that are known, whatever size it has and
 -- whatever it shows.
-use Rattle.std.proofs.Common.{◌≡◌, ◌<◌, ◌+◌, ◌-◌, ◌^◌, ◌&&◌, not, ℕ, zero, suc, pos, negsuc, true, false, Bool, cond, eqb, leb, min, replicate, codes, List, [], ◌∷◌, ◌++◌, ap, subst, sym, refl, arith}
+use Rattle.std.proofs.Common.{◌≡◌, ◌<◌, ◌+◌, ◌-◌, ◌^◌, ◌&&◌, ◌||◌, not, length, inl, inr, ℕ, zero, suc, pos, negsuc, true, false, Bool, cond, eqb, ltb, leb, min, replicate, codes, List, [], ◌∷◌, ◌++◌, ap, subst, sym, refl, arith}
 use Rattle.std.specs.Fmt.{decimal}
-use Rattle.std.specs.List.{list_all}
-use Rattle.std.proofs.lemmas.Bool.{ne_eqb, false≢true, and_parts}
+use Rattle.std.specs.List.{list_all, list_any}
+use Rattle.std.specs.Char.{is_control}
+use Rattle.std.specs.Cmp.Lexicographic.{pointwise}
+use Rattle.std.specs.Prelude.{chars}
+use Rattle.unicode_segmentation.specs.Grapheme.{graphemes}
+use Rattle.std.proofs.lemmas.Bool.{false≢true, and_parts, or_cases, leb-true}
 use Rattle.tw_surface.specs.declared.cell.CellAttributes.{CellAttributes}
 use Rattle.tw_surface.specs.declared.change.Position.{Position}
 use Rattle.tw_surface.specs.declared.change.Position.TheVariants.{Absolute, Relative}
@@ -12,36 +16,36 @@ use Rattle.tw_surface.specs.ChangeView.{ChangeView}
 use Rattle.tw_surface.specs.ChangeView.{Attribute, AllAttributes, Text, ClearScreen, ClearToEndOfScreen, CursorPosition}
 use Rattle.tw_surface.specs.Attributes.{with_attribute}
 use Rattle.tw_surface.specs.Characters.{is_plain, is_printable}
-use Rattle.laws_screens.specs.Pens.{Pen}
+use Rattle.tw_surface.specs.Width.{cluster_width}
+use Rattle.laws_screens.specs.Pens.{Pen, cluster_cells}
 use Rattle.laws_screens.specs.Screens.{blank_of}
 use Rattle.tw_ansi.specs.declared.encode.Encoder.{Encoder}
-use Rattle.tw_ansi.specs.Encoding.{Sent, sent_beginning, sent_byte, sent_change, sent_clear, sent_plain, sent_text, column_of}
+use Rattle.tw_ansi.specs.Encoding.{Sent, sent_return, sent_feed, sent_return_feed, sent_beginning, sent_columns, sent_byte, sent_cluster, sent_plain, sent_clusters, sent_text, sent_change, sent_clear, shown_as, column_of}
 use Rattle.tw_ansi.specs.Sequences.{sequence, to_column, to_row, clear_below, clear_rows, clear_with, up_a_row, set_attributes, set_attribute}
 use Rattle.tw_ansi.specs.EcmaLaws.{at_rest, IsColor, IsAttribute}
-use Rattle.tw_ansi.specs.EcmaScreen.{EcmaScreen, act_by, feed_line, receive_all, return_to_start, step_back, write, write_here}
+use Rattle.tw_ansi.specs.EcmaScreen.{EcmaScreen, act_by, columns_of, feed_line, is_whole, receive_all, receive_by, return_to_start, write, write_here, write_character}
 use Rattle.tw_ansi.specs.EcmaScreen as terminal
+use Rattle.tw_ansi.specs.EcmaTexts.{are_marks, is_character, is_character_by, is_lone, is_sent, is_sent_cluster}
 use Rattle.tw_ansi.proofs.EcmaClearings.{clears_below, clears_rows}
 use Rattle.tw_ansi.proofs.EcmaRenditions.{attribute_is_selected, attributes_are_selected}
 use Rattle.tw_ansi.proofs.EcmaSequences.{received, numbered}
-use Rattle.tw_ansi.proofs.KnownTerminals.{keeps_text}
+use Rattle.tw_ansi.proofs.EcmaWrites.{begins, text_write}
+use Rattle.tw_ansi.proofs.KnownTerminals.{keeps_text, byte_in, cluster_in}
 use Rattle.laws_runs.specs.Rests.{Rests}
 
--- a change that leaves a terminal at rest whatever is known of it
-abbrev pub IsRestful : ChangeView → Type 0
-IsRestful (Text text) = list_all is_plain text ≡ true
-IsRestful (Attribute change) = IsAttribute change
-IsRestful (AllAttributes to) = IsColor to.foreground × IsColor to.background
-IsRestful (ClearScreen color) = ⊥
-IsRestful (ClearToEndOfScreen color) = ⊥
-IsRestful (CursorPosition x y) = Unit {0}
+-- a change that leaves a terminal at rest whatever is known of it: its texts are sent at n columns
+abbrev pub IsRestful : ℕ → ChangeView → Type 0
+IsRestful n (Text text) = is_sent n text ≡ true
+IsRestful n (Attribute change) = IsAttribute change
+IsRestful n (AllAttributes to) = IsColor to.foreground × IsColor to.background
+IsRestful n (ClearScreen color) = ⊥
+IsRestful n (ClearToEndOfScreen color) = ⊥
+IsRestful n (CursorPosition x y) = Unit {0}
 
--- either of two that know the same columns
-either-cols : (t : Bool) (x y : Sent) (n : ℕ) → x.next.cols ≡ n → y.next.cols ≡ n → (cond t x y).next.cols ≡ n
-either-cols true x y n p q = p
-either-cols false x y n p q = q
-
-byte-cols : (e : Encoder) (b : ℕ) → (sent_byte e b).next.cols ≡ e.cols
-byte-cols e b = either-cols (eqb b 13) _ _ e.cols refl (either-cols (eqb b 10) _ _ e.cols (either-cols (leb e.cols e.x && not e.parted) _ _ e.cols refl refl) (either-cols (leb (e.x + 1) e.cols) _ _ e.cols refl refl))
+-- how far a character was read of which these bytes have come
+abbrev read_of : List ℕ → terminal.Reading
+read_of [] = terminal.Text
+read_of (lead ∷ begun) = terminal.Begun (lead ∷ begun)
 
 module _ {A C : Type 0} (pen : Pen A C) where
   module _ (h w : ℕ) where
@@ -109,47 +113,138 @@ module _ {A C : Type 0} (pen : Pen A C) where
 
     -- ---- texts
 
-    written-rests : (a : CellAttributes) (x : C) (t : EcmaScreen C) → Rests a t → Rests a (write_here w x t)
-    written-rests a x t rests = either-rests (eqb (t.col + 1) w) a _ _ rests rests
+    written-rests : (a : CellAttributes) (cells : List C) (t : EcmaScreen C) → Rests a t → Rests a (write_here w cells t)
+    written-rests a cells t rests = either-rests (eqb (t.col + length cells) w) a _ _ rests rests
 
-    write-rests : (a : CellAttributes) (x : C) (t : EcmaScreen C) → Rests a t → Rests a (write (blank_of pen) h w x t)
-    write-rests a x t rests =
-        either-rests t.waits a _ _ (written-rests a x (return_to_start (feed_line (blank_of pen) h t)) (fed-rests a t rests)) (written-rests a x t rests)
+    write-rests : (a : CellAttributes) (cells : List C) (t : EcmaScreen C) → Rests a t → Rests a (write (blank_of pen) h w cells t)
+    write-rests a cells t rests =
+        either-rests (t.waits || ltb w (t.col + length cells)) a _ _ (written-rests a cells (return_to_start (feed_line (blank_of pen) h t)) (fed-rests a t rests)) (written-rests a cells t rests)
 
-    byte-leads : (b : ℕ) (a : CellAttributes) → eqb b 27 ≡ false → KeepsRest (b ∷ []) a a
-    byte-leads b a other = leads-by (b ∷ []) a a rest (λ t r. ap (λ z. cond z (record t { reading = terminal.Escaped }) (rest t)) other)
-        (λ t r. either-rests (eqb b 13) a _ _ (refl, r) (either-rests (eqb b 10) a _ _ (fed-rests a (at_rest t) (refl, r))
-        (either-rests (eqb b 8) a _ _ (refl, r) (either-rests (is_printable b) a _ _ (write-rests a (pen.ink (pen.attributes t.rendition) b) (at_rest t) (refl, r)) (refl, r)))))
+    printable-leads : (b : ℕ) (a : CellAttributes) → is_printable b ≡ true → KeepsRest (b ∷ []) a a
+    printable-leads b a printable =
+        leads-by (b ∷ []) a a (λ t. write (blank_of pen) h w (cluster_cells pen (pen.attributes t.rendition) (b ∷ []) 1) (at_rest t)) (λ t r. text_write pen h w b (at_rest t) refl printable)
+        (λ t r. write-rests a (cluster_cells pen (pen.attributes t.rendition) (b ∷ []) 1) (at_rest t) (refl, r))
+
+    character-rests : (bytes : List ℕ) (a : CellAttributes) (t : EcmaScreen C) → Rests a t → Rests a (write_character pen h w bytes t)
+    character-rests bytes a t rests = either-rests (eqb (columns_of bytes) 0) a _ _ rests (write-rests a (cluster_cells pen (pen.attributes t.rendition) bytes (columns_of bytes)) t rests)
+
+    -- bytes of marks, after some bytes of the first one
+    marks-lead : (bytes begun : List ℕ) (a : CellAttributes) → are_marks begun bytes ≡ true → (t : EcmaScreen C) → t.reading ≡ read_of begun → t.rendition ≡ a → Rests a (receive_all pen h w bytes t)
+    marks-lead [] [] a fits t reading rendition = (reading, rendition)
+    marks-lead [] (lead ∷ begun) a fits t reading rendition = absurd (false≢true fits)
+    marks-lead (b ∷ bytes) [] a fits t reading rendition =
+        let both = and_parts (leb 194 b) (are_marks (b ∷ []) bytes) fits in
+        subst (λ u. Rests a (receive_all pen h w bytes u)) (sym (begins pen h w b t reading (leb-true _ _ both.0)))
+        (marks-lead bytes (b ∷ []) a both.1 (record t { reading = terminal.Begun (b ∷ []) }) refl rendition)
+    marks-lead (b ∷ bytes) (lead ∷ begun) a fits t reading rendition =
+        subst (λ u. Rests a (receive_all pen h w bytes u)) (sym (ap (λ r. receive_by pen h w r b t) reading)) (go (marks-lead bytes [] a) (marks-lead bytes mark a) (is_whole mark) fits)
       where
-        rest : EcmaScreen C → EcmaScreen C
-        rest t = cond (eqb b 13) (return_to_start (at_rest t)) (cond (eqb b 10) (feed_line (blank_of pen) h (at_rest t))
-            (cond (eqb b 8) (step_back (at_rest t)) (cond (is_printable b) (write (blank_of pen) h w (pen.ink (pen.attributes t.rendition) b) (at_rest t)) (at_rest t))))
+        mark : List ℕ
+        mark = lead ∷ (begun ++ b ∷ [])
+
+        go : (are_marks [] bytes ≡ true → (u : EcmaScreen C) → u.reading ≡ terminal.Text → u.rendition ≡ a → Rests a (receive_all pen h w bytes u))
+            → (are_marks mark bytes ≡ true → (u : EcmaScreen C) → u.reading ≡ terminal.Begun mark → u.rendition ≡ a → Rests a (receive_all pen h w bytes u))
+            → (k : Bool) → cond k (eqb (columns_of mark) 0 && are_marks [] bytes) (are_marks mark bytes) ≡ true
+            → Rests a (receive_all pen h w bytes (cond k (write_character pen h w mark (record t { reading = terminal.Text })) (record t { reading = terminal.Begun mark })))
+        go rest on true both =
+            let u : EcmaScreen C = record t { reading = terminal.Text } in
+            let rests = character-rests mark a u (refl, rendition) in
+            rest (and_parts (eqb (columns_of mark) 0) (are_marks [] bytes) both).1 (write_character pen h w mark u) rests.0 rests.1
+        go rest on false fits = on fits (record t { reading = terminal.Begun mark }) refl rendition
+
+    -- and of a character, where some have come, and its marks
+    begun-leads : (width : ℕ) (bytes begun : List ℕ) (a : CellAttributes) → is_character_by width begun bytes ≡ true → (t : EcmaScreen C) → t.reading ≡ terminal.Begun begun → t.rendition ≡ a → Rests a (receive_all pen h w bytes t)
+    begun-leads width [] begun a fits t reading rendition = absurd (false≢true fits)
+    begun-leads width (b ∷ bytes) begun a fits t reading rendition =
+        subst (λ u. Rests a (receive_all pen h w bytes u)) (sym (ap (λ r. receive_by pen h w r b t) reading)) (go (begun-leads width bytes character a) (is_whole character) fits)
+      where
+        character : List ℕ
+        character = begun ++ b ∷ []
+
+        go : (is_character_by width character bytes ≡ true → (u : EcmaScreen C) → u.reading ≡ terminal.Begun character → u.rendition ≡ a → Rests a (receive_all pen h w bytes u))
+            → (k : Bool) → cond k (eqb (columns_of character) width && are_marks [] bytes) (is_character_by width character bytes) ≡ true
+            → Rests a (receive_all pen h w bytes (cond k (write_character pen h w character (record t { reading = terminal.Text })) (record t { reading = terminal.Begun character })))
+        go on true both =
+            let u : EcmaScreen C = record t { reading = terminal.Text } in
+            let rests = character-rests character a u (refl, rendition) in
+            marks-lead bytes [] a (and_parts (eqb (columns_of character) width) (are_marks [] bytes) both).1 (write_character pen h w character u) rests.0 rests.1
+        go on false fits = on fits (record t { reading = terminal.Begun character }) refl rendition
+
+    character-leads : (width : ℕ) (cluster : List ℕ) (a : CellAttributes) → is_character width cluster ≡ true → KeepsRest cluster a a
+    character-leads width [] a fits = absurd (false≢true fits)
+    character-leads width (lead ∷ bytes) a fits = elim (or_cases _ _ fits) [
+      | inl printable ↦
+          let both = and_parts (is_printable lead) (eqb width 1 && are_marks [] bytes) printable in
+          leads-then (lead ∷ []) bytes a a a (printable-leads lead a both.0) (λ t rests. marks-lead bytes [] a (and_parts (eqb width 1) (are_marks [] bytes) both.1).1 t rests.0 rests.1)
+      | inr several ↦
+          let both = and_parts (leb 194 lead) (is_character_by width (lead ∷ []) bytes) several in
+          λ t rests. subst (λ u. Rests a (receive_all pen h w bytes u)) (sym (begins pen h w lead t rests.0 (leb-true _ _ both.0)))
+          (begun-leads width bytes (lead ∷ []) a both.1 (record t { reading = terminal.Begun (lead ∷ []) }) refl rests.1)
+    ]
+
+    -- ---- what is sent of them
+
+    below-leads : (a : CellAttributes) → KeepsRest (13 ∷ 10 ∷ []) a a
+    below-leads a = leads-then (13 ∷ []) (10 ∷ []) a a a (return-leads a) (feed-leads a)
+
+    sent-feed-leads : (e : Encoder) (a : CellAttributes) → e.cols < 2 ^ 64 → KeepsRest (sent_feed e).bytes a a
+    sent-feed-leads e a small =
+        either-sent (leb e.cols e.x && not e.parted) a a _ _ (leads-then (10 ∷ []) (to_column (e.cols - 1)) a a a (feed-leads a) (column-leads (e.cols - 1) a (omega (arith, small)))) (feed-leads a)
+
+    columns-lead : (e : Encoder) (width : ℕ) (bytes : List ℕ) (a : CellAttributes) → KeepsRest bytes a a → KeepsRest (sent_columns e width bytes).bytes a a
+    columns-lead e width bytes a leads =
+        leads-then (sent_beginning e width).bytes bytes a a a
+        (either-sent (eqb width 0) a a _ _ (nothing-leads a)
+        (either-sent (leb (e.x + width) e.cols) a a _ _ (nothing-leads a) (either-leads e.parted a a (13 ∷ 10 ∷ []) [] (below-leads a) (nothing-leads a)))) leads
 
     plain-byte-leads : (e : Encoder) (b : ℕ) (a : CellAttributes) → is_plain b ≡ true → e.cols < 2 ^ 64 → KeepsRest (sent_byte e b).bytes a a
-    plain-byte-leads e b a plain small =
-        let other : eqb b 27 ≡ false = ne_eqb b 27 (λ is. false≢true (subst (λ n. is_plain n ≡ true) is plain)) in
-        either-sent (eqb b 13) a a _ _ (return-leads a)
-        (either-sent (eqb b 10) a a _ _
-        (either-sent (leb e.cols e.x && not e.parted) a a _ _ (leads-then (10 ∷ []) (to_column (e.cols - 1)) a a a (feed-leads a) (column-leads (e.cols - 1) a (omega (arith, small)))) (feed-leads a))
-        (leads-then (sent_beginning e 1).bytes (b ∷ []) a a a
-        (either-sent (leb (e.x + 1) e.cols) a a _ _ (nothing-leads a)
-        (either-leads e.parted a a (13 ∷ 10 ∷ []) [] (leads-then (13 ∷ []) (10 ∷ []) a a a (return-leads a) (feed-leads a)) (nothing-leads a)))
-        (byte-leads b a other)))
+    plain-byte-leads e b a plain small = go (eqb b 13) (eqb b 10) plain
+      where
+        go : (x y : Bool) → ((x || y) || is_printable b) ≡ true → KeepsRest (cond x (sent_return e) (cond y (sent_feed e) (sent_columns e 1 (b ∷ [])))).bytes a a
+        go true y k = return-leads a
+        go false true k = sent-feed-leads e a small
+        go false false k = columns-lead e 1 (b ∷ []) a (printable-leads b a k)
 
     plain-leads : (text : List ℕ) (e : Encoder) (a : CellAttributes) → list_all is_plain text ≡ true → e.cols < 2 ^ 64 → KeepsRest (sent_plain text e).bytes a a
     plain-leads [] e a plain small = nothing-leads a
     plain-leads (b ∷ text) e a plain small =
         let parts = and_parts _ _ plain in
         leads-then (sent_byte e b).bytes (sent_plain text (sent_byte e b).next).bytes a a a (plain-byte-leads e b a parts.0 small)
-        (plain-leads text (sent_byte e b).next a parts.1 (rw (byte-cols e b) small))
+        (plain-leads text (sent_byte e b).next a parts.1 (rw (byte_in e b) small))
 
-    text-leads : (text : List ℕ) (e : Encoder) (a : CellAttributes) → list_all is_plain text ≡ true → e.cols < 2 ^ 64 → KeepsRest (sent_text text e).bytes a a
-    text-leads text e a plain small = rw plain (plain-leads text e a plain small)
+    cluster-leads : (n : ℕ) (e : Encoder) (cluster : List ℕ) (a : CellAttributes) → is_sent_cluster n cluster ≡ true → e.cols < 2 ^ 64 → KeepsRest (sent_cluster e cluster).bytes a a
+    cluster-leads n e cluster a fits small = go (pointwise eqb cluster (13 ∷ [])) (pointwise eqb cluster (10 ∷ [])) (pointwise eqb cluster (13 ∷ 10 ∷ [])) fits
+      where
+        go : (x y z : Bool) → (x || (y || (z || is_lone n cluster))) ≡ true
+            → KeepsRest (cond x (sent_return e) (cond y (sent_feed e) (cond z (sent_return_feed e) (sent_columns e (cluster_width cluster) (shown_as cluster))))).bytes a a
+        go true y z k = return-leads a
+        go false true z k = sent-feed-leads e a small
+        go false false true k = below-leads a
+        go false false false k =
+            let lone = and_parts (is_character (cluster_width cluster) cluster) _ k in
+            columns-lead e (cluster_width cluster) (shown_as cluster) a
+            (either-leads (list_any is_control (chars cluster)) a a (63 ∷ []) cluster (printable-leads 63 a refl) (character-leads (cluster_width cluster) cluster a lone.0))
+
+    clusters-lead : (n : ℕ) (clusters : List (List ℕ)) (e : Encoder) (a : CellAttributes) → list_all (is_sent_cluster n) clusters ≡ true → e.cols < 2 ^ 64 → KeepsRest (sent_clusters clusters e).bytes a a
+    clusters-lead n [] e a fits small = nothing-leads a
+    clusters-lead n (cluster ∷ more) e a fits small =
+        let parts = and_parts (is_sent_cluster n cluster) (list_all (is_sent_cluster n) more) fits in
+        leads-then (sent_cluster e cluster).bytes (sent_clusters more (sent_cluster e cluster).next).bytes a a a (cluster-leads n e cluster a parts.0 small)
+        (clusters-lead n more (sent_cluster e cluster).next a parts.1 (rw (cluster_in e cluster) small))
+
+    text-leads : (n : ℕ) (text : List ℕ) (e : Encoder) (a : CellAttributes) → is_sent n text ≡ true → e.cols < 2 ^ 64 → KeepsRest (sent_text text e).bytes a a
+    unfolding is_sent
+    text-leads n text e a fits small = go (list_all is_plain text) refl fits
+      where
+        go : (k : Bool) → list_all is_plain text ≡ k → (k || list_all (is_sent_cluster n) (graphemes true text)) ≡ true
+            → KeepsRest (cond k (sent_plain text e) (sent_clusters (graphemes true text) e)).bytes a a
+        go true plain fits = plain-leads text e a plain small
+        go false plain fits = clusters-lead n (graphemes true text) e a fits small
 
     -- ---- clearings
 
-    below-leads : (color : ColorAttribute) (a : CellAttributes) → IsColor color → IsColor a.background → KeepsRest (clear_with clear_below color a.background) a a
-    below-leads color a p q t (reading, rendition) =
+    cleared-below-leads : (color : ColorAttribute) (a : CellAttributes) → IsColor color → IsColor a.background → KeepsRest (clear_with clear_below color a.background) a a
+    cleared-below-leads color a p q t (reading, rendition) =
         let is : t ≡ at_rest t = ap (λ r. record t { reading = r }) reading in
         subst (λ x. Rests a (receive_all pen h w (clear_with clear_below color x.background) t)) rendition
         (subst (λ u. Rests a (receive_all pen h w (clear_with clear_below color t.rendition.background) u)) (sym is)
@@ -172,20 +267,20 @@ module _ {A C : Type 0} (pen : Pen A C) where
         either-sent (leb e.cols e.x) a a _ _
         (leads-then ((13 ∷ 10 ∷ clear) ++ up_a_row) (to_column (e.cols - 1)) a a a
         (leads-then (13 ∷ 10 ∷ clear) up_a_row a a a
-        (leads-then (13 ∷ []) (10 ∷ clear) a a a (return-leads a) (leads-then (10 ∷ []) clear a a a (feed-leads a) (below-leads color a p q))) (up-leads a))
+        (leads-then (13 ∷ []) (10 ∷ clear) a a a (return-leads a) (leads-then (10 ∷ []) clear a a a (feed-leads a) (cleared-below-leads color a p q))) (up-leads a))
         (column-leads (e.cols - 1) a (omega (arith, small))))
-        (either-sent (eqb e.x 0) a a _ _ (rows-lead color a p q) (below-leads color a p q))
+        (either-sent (eqb e.x 0) a a _ _ (rows-lead color a p q) (cleared-below-leads color a p q))
 
     -- ---- changes
 
-    pub change-leads : (change : ChangeView) (e : Encoder) → IsRestful change → e.cols < 2 ^ 64 → KeepsRest (sent_change change e).bytes e.attributes (sent_change change e).next.attributes
-    change-leads (Text text) e p small = subst (KeepsRest (sent_text text e).bytes e.attributes) (sym (keeps_text text e p)) (text-leads text e e.attributes p small)
-    change-leads (Attribute change) e p small =
+    pub change-leads : (n : ℕ) (change : ChangeView) (e : Encoder) → IsRestful n change → e.cols < 2 ^ 64 → KeepsRest (sent_change change e).bytes e.attributes (sent_change change e).next.attributes
+    change-leads n (Text text) e p small = subst (KeepsRest (sent_text text e).bytes e.attributes) (sym (keeps_text text e)) (text-leads n text e e.attributes p small)
+    change-leads n (Attribute change) e p small =
         leads-by (set_attribute change) e.attributes (with_attribute change e.attributes) (λ t. record t { rendition = with_attribute change t.rendition; reading = terminal.Text })
         (λ t r. attribute_is_selected pen h w change t p) (λ t r. (refl, ap (with_attribute change) r))
-    change-leads (AllAttributes to) e p small =
+    change-leads n (AllAttributes to) e p small =
         leads-by (set_attributes to) e.attributes to (λ t. record t { rendition = to; reading = terminal.Text }) (λ t r. attributes_are_selected pen h w to t p.0 p.1) (λ t r. (refl, refl))
-    change-leads (ClearScreen color) e p small = absurd p
-    change-leads (ClearToEndOfScreen color) e p small = absurd p
-    change-leads (CursorPosition x y) e p small =
+    change-leads n (ClearScreen color) e p small = absurd p
+    change-leads n (ClearToEndOfScreen color) e p small = absurd p
+    change-leads n (CursorPosition x y) e p small =
         leads-then (to_row y) (to_column (column_of x e)) e.attributes e.attributes e.attributes (row-leads y e.attributes) (column-leads (column_of x e) e.attributes (omega (arith, small)))

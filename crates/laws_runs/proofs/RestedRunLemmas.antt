@@ -20,60 +20,55 @@ use Rattle.tw_ansi.specs.EcmaPaintings.{IsTypedChange, IsTypedScene}
 use Rattle.tw_ansi.specs.EcmaScreen.{EcmaScreen, receive_all}
 use Rattle.tw_ansi.specs.Sequences.{clear_all, clear_with, to_first_cell}
 use Rattle.tw_ansi.proofs.EcmaClearings.{clears_all}
-use Rattle.tw_ansi.proofs.EcmaPaintings.{shown, shown_typed, painting_knows_color}
+use Rattle.tw_ansi.proofs.EcmaPaintings.{shown, shown_typed}
 use Rattle.tw_ansi.proofs.KnownTerminals.{batch_in, clear_keeps}
 use Rattle.laws_runs.specs.Rests.{Rests, Receives, IsTypedStation, RestIsKept, ResizedHeals}
 use Rattle.laws_runs.specs.SizedReadings.{sent_at, sent_sized}
+use Rattle.laws_runs.proofs.ClosingLemmas.{begun_color}
 use Rattle.laws_runs.proofs.RestLemmas.{IsRestful, KeepsRest, leads-then, nothing-leads, change-leads, clear-leads}
 
-both-restful : (xs ys : Batch) → AllByRecursion IsRestful xs → AllByRecursion IsRestful ys → AllByRecursion IsRestful (xs ++ ys)
-both-restful [] ys a b = b
-both-restful (x ∷ xs) ys a b = (a.0, both-restful xs ys a.1 b)
+both-restful : (n : ℕ) (xs ys : Batch) → AllByRecursion (IsRestful n) xs → AllByRecursion (IsRestful n) ys → AllByRecursion (IsRestful n) (xs ++ ys)
+both-restful n [] ys a b = b
+both-restful n (x ∷ xs) ys a b = (a.0, both-restful n xs ys a.1 b)
 
-typed-restful : (xs : Batch) → AllByRecursion IsTypedChange xs → AllByRecursion IsRestful xs
-typed-restful [] a = tt
-typed-restful (Text text ∷ xs) a = (a.0, typed-restful xs a.1)
-typed-restful (Attribute change ∷ xs) a = (a.0, typed-restful xs a.1)
-typed-restful (AllAttributes to ∷ xs) a = (a.0, typed-restful xs a.1)
-typed-restful (ClearScreen color ∷ xs) a = absurd a.0
-typed-restful (ClearToEndOfScreen color ∷ xs) a = absurd a.0
-typed-restful (CursorPosition x y ∷ xs) a = absurd a.0
-
--- the colour that is known after a painting and its start move
-begun-color : (mark : Option Mark) (w : ℕ) (scene : Scene) (e : Encoder) → IsTypedScene scene
-    → IsColor (sent_batch (start_of mark ++ (painting w scene).changes) e).next.attributes.background
-begun-color None w scene e t = painting_knows_color w scene e t
-begun-color (Some m) w scene e t = painting_knows_color w scene (sent_change (start_move m) e).next t
+typed-restful : (n : ℕ) (xs : Batch) → AllByRecursion (IsTypedChange n) xs → AllByRecursion (IsRestful n) xs
+typed-restful n [] a = tt
+typed-restful n (Text text ∷ xs) a = (a.0, typed-restful n xs a.1)
+typed-restful n (Attribute change ∷ xs) a = (a.0, typed-restful n xs a.1)
+typed-restful n (AllAttributes to ∷ xs) a = (a.0, typed-restful n xs a.1)
+typed-restful n (ClearScreen color ∷ xs) a = absurd a.0
+typed-restful n (ClearToEndOfScreen color ∷ xs) a = absurd a.0
+typed-restful n (CursorPosition x y ∷ xs) a = absurd a.0
 
 module _ {A C : Type 0} (pen : Pen A C) where
-  batch-leads : (h w : ℕ) (batch : Batch) (e : Encoder) → AllByRecursion IsRestful batch → e.cols < 2 ^ 64
+  batch-leads : (h w n : ℕ) (batch : Batch) (e : Encoder) → AllByRecursion (IsRestful n) batch → e.cols < 2 ^ 64
       → KeepsRest pen h w (sent_batch batch e).bytes e.attributes (sent_batch batch e).next.attributes
-  batch-leads h w [] e a small = nothing-leads pen h w e.attributes
-  batch-leads h w (x ∷ xs) e a small =
+  batch-leads h w n [] e a small = nothing-leads pen h w e.attributes
+  batch-leads h w n (x ∷ xs) e a small =
       let next : Encoder = (sent_change x e).next in
       leads-then pen h w (sent_change x e).bytes (sent_batch xs next).bytes e.attributes next.attributes (sent_batch xs next).next.attributes
-      (change-leads pen h w x e a.0 small) (batch-leads h w xs next a.1 (rw (batch_in (x ∷ []) e) small))
+      (change-leads pen h w n x e a.0 small) (batch-leads h w n xs next a.1 (rw (batch_in (x ∷ []) e) small))
 
-  painting-leads : (h w n : ℕ) (scene : Scene) (e : Encoder) → IsTypedScene scene → IsColor e.attributes.background → e.cols < 2 ^ 64
+  painting-leads : (h w n : ℕ) (scene : Scene) (e : Encoder) → IsTypedScene n scene → IsColor e.attributes.background → e.cols < 2 ^ 64
       → KeepsRest pen h w (sent_batch (painting n scene).changes e).bytes e.attributes (sent_batch (painting n scene).changes e).next.attributes
   painting-leads h w n scene e t color small =
       let move : ChangeView = move_between (place_after_all n (shown_part n scene) origin) (cursor_place n scene) in
       let rest : Batch = AllAttributes default_attributes ∷ (shown n scene ++ move ∷ []) in
       let next : Encoder = (sent_change (ClearToEndOfScreen default_color) e).next in
-      let restful : AllByRecursion IsRestful rest = ((tt, tt), both-restful (shown n scene) (move ∷ []) (typed-restful (shown n scene) (shown_typed n scene t)) (tt, tt)) in
+      let restful : AllByRecursion (IsRestful n) rest = ((tt, tt), both-restful n (shown n scene) (move ∷ []) (typed-restful n (shown n scene) (shown_typed n scene t)) (tt, tt)) in
       leads-then pen h w (sent_change (ClearToEndOfScreen default_color) e).bytes (sent_batch rest next).bytes e.attributes e.attributes (sent_batch rest next).next.attributes
       (clear-leads pen h w default_color e tt color small)
       (subst (λ a. KeepsRest pen h w (sent_batch rest next).bytes a (sent_batch rest next).next.attributes) (clear_keeps default_color e)
-      (batch-leads h w rest next restful (rw (batch_in (ClearToEndOfScreen default_color ∷ []) e) small)))
+      (batch-leads h w n rest next restful (rw (batch_in (ClearToEndOfScreen default_color ∷ []) e) small)))
 
-  begun-leads : (h w n : ℕ) (mark : Option Mark) (scene : Scene) (e : Encoder) → IsTypedScene scene → IsColor e.attributes.background → e.cols < 2 ^ 64
+  begun-leads : (h w n : ℕ) (mark : Option Mark) (scene : Scene) (e : Encoder) → IsTypedScene n scene → IsColor e.attributes.background → e.cols < 2 ^ 64
       → let begun = start_of mark ++ (painting n scene).changes in
       KeepsRest pen h w (sent_batch begun e).bytes e.attributes (sent_batch begun e).next.attributes
   begun-leads h w n None scene e t color small = painting-leads h w n scene e t color small
   begun-leads h w n (Some m) scene e t color small =
       let next : Encoder = (sent_change (start_move m) e).next in
       leads-then pen h w (sent_change (start_move m) e).bytes (sent_batch (painting n scene).changes next).bytes e.attributes e.attributes (sent_batch (painting n scene).changes next).next.attributes
-      (change-leads pen h w (start_move m) e tt small) (painting-leads h w n scene next t color small)
+      (change-leads pen h w n (start_move m) e tt small) (painting-leads h w n scene next t color small)
 
   cleared-leads : (h w : ℕ) (e : Encoder) → IsColor e.attributes.background → KeepsRest pen h w (sent_batch clear_batch e).bytes e.attributes e.attributes
   cleared-leads h w e q t (reading, rendition) =
@@ -119,12 +114,12 @@ module _ {A C : Type 0} (pen : Pen A C) where
           AllKeepRest played e × IsColor (sent_sized played e).next.attributes.background
       by_cleared more false =
           let known : Encoder = record e { cols = x.cols } in
-          let later = more (sent_batch (start_of mark ++ shot.changes) known).next (begun-color mark x.cols x.scene known a.0.typed) in
+          let later = more (sent_batch (start_of mark ++ shot.changes) known).next (begun_color mark x.cols x.scene known a.0.typed) in
           (((λ h w. begun-leads h w x.cols mark x.scene known a.0.typed color a.0.narrow), later.0), later.1)
       by_cleared more true =
           let first : Encoder = record e { cols = x.cols } in
           let known : Encoder = record (sent_batch clear_batch first).next { cols = x.cols } in
-          let later = more (sent_batch (start_of mark ++ shot.changes) known).next (begun-color mark x.cols x.scene known a.0.typed) in
+          let later = more (sent_batch (start_of mark ++ shot.changes) known).next (begun_color mark x.cols x.scene known a.0.typed) in
           (((λ h w. cleared-leads h w first color), ((λ h w. begun-leads h w x.cols mark x.scene known a.0.typed color a.0.narrow), later.0)), later.1)
 
   pub rest_is_kept : {V : Type 0} (rules : HostRules V) → RestIsKept rules pen
@@ -133,7 +128,7 @@ module _ {A C : Type 0} (pen : Pen A C) where
       (rests-behind (sized_after None (map (sized_scene rules) stations)) e t u lead.0 rests received, lead.1)
 
   pub resized_heals : {V : Type 0} (rules : HostRules V) → ResizedHeals rules pen
-  resized_heals rules h w f earlier since station later e first t k =
+  resized_heals rules h w f earlier since station later measured last e first t k =
       let kept = rest_is_kept rules earlier e first t k.typed k.color k.rests k.received in
       record {
         comes = k.comes;

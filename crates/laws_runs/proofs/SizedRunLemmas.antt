@@ -1,11 +1,12 @@
 -- What a reading has written whose events tell other numbers of columns.
-use Rattle.std.proofs.Common.{◌≡◌, ℕ, Some, None, Option, Bool, true, false, List, [], ◌∷◌, ◌++◌, map, ap, subst, ◌∙◌, sym, refl, append_assoc, append-nil}
+use Rattle.std.proofs.Common.{◌≡◌, ℕ, Some, None, Option, false, List, [], ◌∷◌, ◌++◌, map, ap, subst, ◌∙◌, sym, refl, append_assoc, append-nil}
 use Rattle.std.specs.List.{AllByRecursion}
 use Rattle.std.proofs.lemmas.List.{append_cancel_left, map-append}
 use Rattle.tw_surface.specs.ChangeView.{Batch}
-use Rattle.tw_surface.specs.Paintings.{Mark, Painting, painting, mark_of}
-use Rattle.tw_surface.specs.PaintingBatches.{SizedScene, shot_of, clear_batch, clearing, start_of, closing_if, mark_after}
+use Rattle.tw_surface.specs.Paintings.{Mark, painting, mark_of}
+use Rattle.tw_surface.specs.PaintingBatches.{SizedScene, shot_of, clearing, start_of, closing_if, mark_after}
 use Rattle.laws_screens.specs.SizedBatches.{SizedBatch, sized_at, sized_after}
+use Rattle.laws_screens.proofs.SizedBatchLemmas.{sized_are}
 use Rattle.tw_input.specs.EventView.{EventView}
 use Rattle.tw_host.specs.HostRules.{HostRules}
 use Rattle.tw_lineedit.specs.Frame.{Frame}
@@ -27,8 +28,8 @@ use Rattle.tw_device.specs.declared.terminal.AnsiTerminal.{AnsiTerminal}
 use Rattle.laws_runs.specs.SentReadings.{reading_frame}
 use Rattle.laws_runs.specs.SentRuns.{IsSentAt}
 use Rattle.laws_runs.specs.SizedReadings.{sent_sized, stations_sized, run_sized, IsSizedReading, ReadingsAreSized, SinceIsSent, SinceIsSentWhole}
-use Rattle.laws_runs.proofs.ClosingLemmas.{last_of_all}
 use Rattle.laws_runs.proofs.ReadingLemmas.{appended}
+use Rattle.laws_runs.proofs.SentLemmas.{last_of_all, sized_is}
 use Rattle.laws_runs.proofs.SizedReadingLemmas.{IsAnswer, sized_both, sized_known, sized_at-both, sized_from, station_sets, last_size, last_size-is, ends_at, sends_from}
 
 -- an answer is no refusal
@@ -74,22 +75,7 @@ sized_after-both mark (x ∷ xs) ys =
 
 -- those that are sent at w columns
 uniform : (h w : ℕ) (mark : Option Mark) (xs : List SizedScene) → AllByRecursion (IsSentAt h w) xs → sized_after mark xs ≡ sized_at w (map (λ sized. sized.batch) (sized_after mark xs))
-uniform h w mark [] a = refl
-uniform h w mark (x ∷ xs) a = by_cleared (uniform h w (Some (mark_of shot)) xs a.1) x.scene.cleared
-  where
-    shot : Painting
-    shot = painting x.cols x.scene
-
-    batch : Batch
-    batch = start_of mark ++ shot.changes
-
-    rest : List SizedBatch
-    rest = sized_after (Some (mark_of shot)) xs
-
-    by_cleared : rest ≡ sized_at w (map (λ sized. sized.batch) rest) → (b : Bool)
-        → sized_at x.cols (clearing b ++ batch ∷ []) ++ rest ≡ sized_at w (map (λ sized. sized.batch) (sized_at x.cols (clearing b ++ batch ∷ []) ++ rest))
-    by_cleared later true = ap (λ cols. sized_at cols (clear_batch ∷ batch ∷ []) ++ rest) a.0.cols ∙ ap (λ l. sized_at w (clear_batch ∷ batch ∷ []) ++ l) later
-    by_cleared later false = ap (λ cols. sized_at cols (batch ∷ []) ++ rest) a.0.cols ∙ ap (λ l. sized_at w (batch ∷ []) ++ l) later
+uniform h w mark xs a = sized_is h w mark xs a ∙ ap (sized_at w) (sym (sized_are mark xs))
 
 module _ {V : Type 0} (rules : HostRules V) where
   -- the stations since some, and whatever comes after them, set their columns
@@ -101,7 +87,10 @@ module _ {V : Type 0} (rules : HostRules V) where
   module _ {W : Type 0} (contents : W → Option (List ℕ)) where
     -- the bytes of the stations since a clearing come after the ones before it, at any sizes
     pub since_is_sent : SinceIsSent rules contents
-    since_is_sent prompt value old new events held h w earlier since station later k stations-are sent-at =
+    since_is_sent prompt value old new events held h w earlier since station later q =
+        let k = q.reading in
+        let stations-are = q.stations in
+        let sent-at = q.sent in
         let f : Frame V = reading_frame prompt value old events in
         let written = readings_are_sized rules contents prompt value old new events held k in
         let scenes : List (Station V) → List SizedScene = map (sized_scene rules) in
@@ -136,7 +125,10 @@ module _ {V : Type 0} (rules : HostRules V) where
 
     -- where that station is the last one, they and those of the closing batch are all that comes after
     pub since_is_sent_whole : SinceIsSentWhole rules contents
-    since_is_sent_whole prompt value old new events held h w earlier since station k stations-are sent-at =
+    since_is_sent_whole prompt value old new events held h w earlier since station q =
+        let k = q.reading in
+        let stations-are = q.stations in
+        let sent-at = q.sent in
         let f : Frame V = reading_frame prompt value old events in
         let written = readings_are_sized rules contents prompt value old new events held k in
         let reads = reads_of rules contents prompt value old new events held k in

@@ -1,15 +1,16 @@
 -- What the worked runs share: plain rules, bytes that are written, and a terminal over a writer that keeps its bytes.
-use Rattle.std.proofs.Common.{ℕ, zero, suc, ◌≤◌, pos, List, [], ◌∷◌, ◌++◌, false, refl, sym, subst, None, Some, Option, Ok, Err, Result, codes, append-nil, arith}
-use Rattle.laws_screens.specs.Sheets.{IsLow}
+use Rattle.std.proofs.Common.{ℕ, zero, suc, ◌≤◌, pos, List, [], ◌∷◌, ◌++◌, false, refl, sym, None, Some, Option, Ok, Err, Result, codes, append-nil, arith}
+use Rattle.std.specs.List.{All, AllByRecursion}
+use Rattle.std.proofs.lemmas.List.Elements.{All-nil, All-cons}
 use Rattle.tw_surface.specs.ChangeView.{Batch}
 use Rattle.tw_surface.specs.Paintings.{Painting}
 use Rattle.tw_surface.specs.PaintingBatches.{SizedScene}
 use Rattle.tw_surface.specs.Scenes.{IsPlain}
-use Rattle.tw_surface.specs.Simple.{IsSimpleWide}
-use Rattle.laws_screens.specs.SceneSheets.{sheet_of}
+use Rattle.laws_screens.specs.PaintedAlike.{ArePaintedAs}
 use Rattle.laws_screens.specs.Screens.{HasRoom}
 use Rattle.laws_screens.specs.StyledCells.{characters}
-use Rattle.laws_screens.proofs.PlainScenes.{plain_is_simple}
+use Rattle.laws_screens.proofs.PaintedAlikeLemmas.{measured_is_itself}
+use Rattle.laws_screens.proofs.PlainScenes.{plain_is_measured}
 use Rattle.tw_terminal.specs.Uses.{Took, Other}
 use Rattle.tw_terminal.specs.declared.terminal.ScreenSize.{ScreenSize}
 use Rattle.tw_host.specs.HostRules.{HostRules, plain_rules}
@@ -18,6 +19,8 @@ use Rattle.tw_session.specs.SessionView.{new_state}
 use Rattle.tw_lineedit.specs.Stations.{Station}
 use Rattle.tw_ansi.specs.Encoding.{sent_batch}
 use Rattle.tw_ansi.specs.EcmaBatches.{CarriesAttributes}
+use Rattle.tw_ansi.specs.EcmaTexts.{JoinsMarks}
+use Rattle.tw_ansi.proofs.JoinedMarks.{characters_join}
 use Rattle.tw_device.specs.Deeds.{Called, Sized, Does}
 use Rattle.tw_device.specs.declared.terminal.AnsiTerminal.{AnsiTerminal}
 
@@ -45,15 +48,22 @@ abbrev pub bytes_in : Option (List ℕ) → List ℕ
 bytes_in None = []
 bytes_in (Some bytes) = bytes
 
--- plain stations are simple, and their sheets are those of their bytes
-pub simple : (station : SizedScene) → 2 ≤ station.cols → IsPlain station.scene → IsSimpleWide station
-simple station two plain = (two, (plain_is_simple station.scene plain).0)
+-- plain stations are painted as themselves
+pub plain_alike : (stations : List SizedScene) → AllByRecursion (λ station. (2 ≤ station.cols) × IsPlain station.scene) stations → ArePaintedAs characters stations stations
+plain_alike [] plain = tt
+plain_alike (station ∷ more) plain =
+    (measured_is_itself characters station (plain.0.0, plain_is_measured station.cols station.scene plain.0.0 plain.0.1), plain_alike more plain.1)
 
-pub room : (rows : Option ℕ) (station : SizedScene) → IsPlain station.scene → IsLow rows station.cols (sheet_of characters station.cols station.scene) → HasRoom rows characters station
-room rows station plain low = subst (λ scene. IsLow rows station.cols (sheet_of characters station.cols scene)) (sym (plain_is_simple station.scene plain).1) low
+-- all of these stations have room
+pub all_low : (rows : Option ℕ) (stations : List SizedScene) → AllByRecursion (HasRoom rows characters) stations → All (HasRoom rows characters) stations
+all_low rows [] low = All-nil (HasRoom rows characters)
+all_low rows (station ∷ more) low = All-cons (HasRoom rows characters) station more low.0 (all_low rows more low.1)
 
 pub carries : CarriesAttributes characters
 carries change a = refl
+
+pub joins : JoinsMarks characters
+joins = characters_join
 
 -- ---- bytes
 

@@ -24,7 +24,7 @@ use Rattle.tw_session.specs.Steps.{apply}
 use Rattle.tw_session.specs.Refusal.{Refusal, ZeroSize}
 use Rattle.tw_lineedit.specs.Stations.{Station, station_painting, stations_of}
 use Rattle.tw_lineedit.specs.ScreenRuns.{ReachesPlainly, RendersNothing, batches_of, sized_scene}
-use Rattle.laws_runs.proofs.PlainRunLemmas.{run_is_fresh, closes_below}
+use Rattle.tw_lineedit.proofs.ScreenRunLemmas.{run_is_fresh, closes_below}
 
 abbrev Lines : Type 0
 Lines = List (List ℕ)

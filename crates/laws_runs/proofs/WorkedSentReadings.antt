@@ -2,7 +2,7 @@
 -- of five columns.
 use Rattle.std.proofs.Common.{◌≡◌, ℕ, ◌+◌, List, [], ◌∷◌, ◌++◌, false, refl, sym, ap, min, codes, None, Some, ◌∙◌, arith}
 use Rattle.std.proofs.lemmas.Bool.{false≢true}
-use Rattle.std.proofs.lemmas.List.Elements.{All-nil, All-cons}
+use Rattle.std.proofs.lemmas.List.Elements.{All-nil}
 use Rattle.std.specs.Fmt.{digits}
 use Rattle.unicode_segmentation.proofs.Computing.{unicode_segmentation}
 use Rattle.laws_screens.specs.Strokes.{PictureOf}
@@ -11,9 +11,8 @@ use Rattle.tw_surface.specs.Defaults.{default_attributes}
 use Rattle.tw_surface.specs.PaintingBatches.{closing_if}
 use Rattle.tw_surface.specs.Places.{pieces}
 use Rattle.tw_surface.specs.Scenes.{IsPlain}
-use Rattle.tw_surface.specs.Simple.{IsSimpleWide}
+use Rattle.laws_screens.specs.Glyphs.{glyphs}
 use Rattle.tw_surface.specs.Width.{column_width}
-use Rattle.laws_screens.specs.Screens.{HasRoom}
 use Rattle.laws_screens.specs.StyledCells.{characters}
 use Rattle.tw_input.specs.EventView.{EventView, Key, Paste}
 use Rattle.tw_input.specs.declared.key.KeyCode.TheVariants.{Char}
@@ -43,10 +42,11 @@ use Rattle.tw_device.specs.declared.keys.SourceState.TheVariants.{AtEnd}
 use Rattle.tw_device.specs.declared.reading.Answer.TheVariants.{Cancelled}
 use Rattle.tw_device.specs.declared.terminal.AnsiTerminal.{AnsiTerminal}
 use Rattle.laws_runs.specs.SentReadings.{reading_frame, IsSentReading}
+use Rattle.tw_ansi.proofs.EcmaPaintings.{plain_sent}
 use Rattle.laws_runs.specs.SentRuns.{ComesSent, sent_run}
 use Rattle.laws_runs.proofs.ClosingLemmas.{closings_are_shown}
 use Rattle.laws_runs.proofs.ReadingLemmas.{readings_are_sent}
-use Rattle.laws_runs.proofs.WorkedParts.{Lines, rules, nth, nth_batch, painting_in, bytes_in, simple, room, carries, prompted, to_right, closing_bytes, Wrote, with_batch, flushed_now, takes, flushes}
+use Rattle.laws_runs.proofs.WorkedParts.{Lines, rules, nth, nth_batch, painting_in, bytes_in, plain_alike, all_low, carries, joins, prompted, to_right, closing_bytes, Wrote, with_batch, flushed_now, takes, flushes}
 
 abbrev prompt : List ℕ
 prompt = 62 ∷ 32 ∷ []
@@ -56,7 +56,7 @@ events = Paste (97 ∷ 98 ∷ []) ∷ Key (key_press 8 (Char 67)) ∷ []
 
 -- four rows of A, of B, of C and of D, the cursor at the start of the second
 abbrev full : EcmaScreen ℕ
-full = record { cell = λ r c. 65 + r; row = 1; col = 0; waits = false; rendition = default_attributes; reading = terminal.Text }
+full = record { cell = λ r c. 65 + r; row = 1; col = 0; waits = false; last = 0; rendition = default_attributes; reading = terminal.Text }
 
 abbrev before : PictureOf ℕ
 before = first_picture characters 4 full
@@ -102,11 +102,11 @@ module _ (it : AnsiTerminal Wrote) where
   )
 
   reads : Reads whole begun (frame_of (record { state = record whole.state { mode = Inactive }; mark = None }) whole.value (terminal_state new)) (outcome_in Cancelled)
-  unfolding pieces column_width painted_on apply destination searched_again search_step boundary_below is_boundary iterate greatest_below least_from
+  unfolding glyphs pieces column_width painted_on apply destination searched_again search_step boundary_below is_boundary iterate greatest_below least_from
   reads = record { answer_is = refl; batches = refl; left = refl; size = refl; state = refl; value = refl; mark = refl; flushed = refl; failures = refl }
 
   reading : IsSentReading rules Some prompt [] old new events []
-  unfolding pieces column_width painted_on apply destination searched_again search_step boundary_below is_boundary iterate greatest_below least_from
+  unfolding glyphs pieces column_width painted_on apply destination searched_again search_step boundary_below is_boundary iterate greatest_below least_from
   reading = record {
     before = [];
     after = events;
@@ -128,31 +128,24 @@ module _ (it : AnsiTerminal Wrote) where
   at n = nth (stations_of rules frame) n
 
   plain_at : (IsPlain (sized_scene rules (at 0)).scene) × (IsPlain (sized_scene rules (at 1)).scene) × (IsPlain (sized_scene rules (at 2)).scene)
-  unfolding pieces column_width painted_on apply destination searched_again search_step boundary_below is_boundary iterate greatest_below least_from
+  unfolding glyphs pieces column_width painted_on apply destination searched_again search_step boundary_below is_boundary iterate greatest_below least_from
   plain_at = (record { prompt = refl; line = refl; lower = tt }, record { prompt = refl; line = refl; lower = tt }, record { prompt = refl; line = refl; lower = tt })
 
-  comes : ComesSent rules characters 4 5 frame (at 0 ∷ at 1 ∷ []) (at 2) [] (first_known 5) full before
-  unfolding pieces column_width painted_on apply destination searched_again search_step boundary_below is_boundary iterate greatest_below least_from
+  comes : ComesSent rules characters 4 5 frame (at 0 ∷ at 1 ∷ []) (at 2) [] (sized_scene rules (at 0) ∷ sized_scene rules (at 1) ∷ []) (sized_scene rules (at 2)) (first_known 5) full before
+  unfolding glyphs pieces column_width painted_on apply destination searched_again search_step boundary_below is_boundary iterate greatest_below least_from
   comes = record {
     comes = record {
-      nothing_painted = refl;
-      stations = refl;
-      painting = painting_in (station_painting rules (at 2));
-      painted = refl;
-      simple = All-cons IsSimpleWide (sized_scene rules (at 0)) (sized_scene rules (at 1) ∷ sized_scene rules (at 2) ∷ []) (simple (sized_scene rules (at 0)) (omega arith) plain_at.0)
-          (All-cons IsSimpleWide (sized_scene rules (at 1)) (sized_scene rules (at 2) ∷ []) (simple (sized_scene rules (at 1)) (omega arith) plain_at.1)
-          (All-cons IsSimpleWide (sized_scene rules (at 2)) [] (simple (sized_scene rules (at 2)) (omega arith) plain_at.2) (All-nil IsSimpleWide)));
-      low = All-cons (HasRoom (Some 4) characters) (sized_scene rules (at 0)) (sized_scene rules (at 1) ∷ sized_scene rules (at 2) ∷ []) (room (Some 4) (sized_scene rules (at 0)) plain_at.0 (omega arith))
-          (All-cons (HasRoom (Some 4) characters) (sized_scene rules (at 1)) (sized_scene rules (at 2) ∷ []) (room (Some 4) (sized_scene rules (at 1)) plain_at.1 (omega arith))
-          (All-cons (HasRoom (Some 4) characters) (sized_scene rules (at 2)) [] (room (Some 4) (sized_scene rules (at 2)) plain_at.2 (omega arith)) (All-nil (HasRoom (Some 4) characters))));
+      comes = record { nothing_painted = refl; stations = refl; painting = painting_in (station_painting rules (at 2)); painted = refl };
+      alike = plain_alike (sized_scene rules (at 0) ∷ sized_scene rules (at 1) ∷ sized_scene rules (at 2) ∷ []) ((omega arith, plain_at.0), ((omega arith, plain_at.1), ((omega arith, plain_at.2), tt)));
+      low = all_low (Some 4) (sized_scene rules (at 0) ∷ sized_scene rules (at 1) ∷ sized_scene rules (at 2) ∷ []) (omega arith, (omega arith, (omega arith, tt)));
       at_start = refl;
       in_sight = omega arith;
     };
     sent = (
-      record { cols = refl; showable = record { typed = record { prompt = (refl, tt); line = (refl, tt); lower = tt }; near = omega arith; back = omega arith; under = omega arith } },
+      record { cols = refl; showable = record { typed = record { prompt = (plain_sent 5 _ refl, tt); line = (plain_sent 5 _ refl, tt); lower = tt }; near = omega arith; back = omega arith; under = omega arith } },
       (
-        record { cols = refl; showable = record { typed = record { prompt = (refl, tt); line = (refl, tt); lower = tt }; near = omega arith; back = omega arith; under = omega arith } },
-        (record { cols = refl; showable = record { typed = record { prompt = (refl, tt); line = (refl, tt); lower = tt }; near = omega arith; back = omega arith; under = omega arith } }, tt),
+        record { cols = refl; showable = record { typed = record { prompt = (plain_sent 5 _ refl, tt); line = (plain_sent 5 _ refl, tt); lower = tt }; near = omega arith; back = omega arith; under = omega arith } },
+        (record { cols = refl; showable = record { typed = record { prompt = (plain_sent 5 _ refl, tt); line = (plain_sent 5 _ refl, tt); lower = tt }; near = omega arith; back = omega arith; under = omega arith } }, tt),
       ),
     );
     narrow = omega arith;
@@ -162,7 +155,7 @@ module _ (it : AnsiTerminal Wrote) where
 
   -- all that was written
   written_is : new.writer ≡ prompted (to_right (codes "2C") (13 ∷ prompted (codes "ab" ++ to_right (codes "4C") (13 ∷ prompted (codes "ab" ++ to_right (codes "4C") closing_bytes)))))
-  unfolding pieces column_width painted_on apply destination searched_again search_step boundary_below is_boundary iterate greatest_below least_from unicode_segmentation digits
+  unfolding glyphs pieces column_width painted_on apply destination searched_again search_step boundary_below is_boundary iterate greatest_below least_from unicode_segmentation digits
   written_is = refl
 
   abbrev ended : List ℕ → EcmaScreen ℕ
@@ -170,12 +163,12 @@ module _ (it : AnsiTerminal Wrote) where
 
   -- the law names some bytes, which are those that were written
   ended_by_law : (bytes : List ℕ) × (new.writer ≡ bytes) × ((ended bytes).row ≡ 2) × ((ended bytes).col ≡ 0) × ((ended bytes).cell 2 0 ≡ 32)
-  unfolding pieces column_width painted_on apply destination searched_again search_step boundary_below is_boundary iterate greatest_below least_from unicode_segmentation
+  unfolding glyphs pieces column_width painted_on apply destination searched_again search_step boundary_below is_boundary iterate greatest_below least_from unicode_segmentation
   ended_by_law =
-      let closes = closings_are_shown characters rules frame 4 5 (at 0 ∷ at 1 ∷ []) (at 2) [] (first_known 5) full before carries comes (All-nil (RendersNothing rules)) in
+      let closes = closings_are_shown characters rules frame 4 5 (at 0 ∷ at 1 ∷ []) (at 2) [] (sized_scene rules (at 0) ∷ sized_scene rules (at 1) ∷ []) (sized_scene rules (at 2)) (first_known 5) full before carries joins comes (All-nil (RendersNothing rules)) in
       let stations = at 0 ∷ at 1 ∷ at 2 ∷ [] in
-      let shown = closes.1 in
-      let below = closes.2 in (
+      let shown = closes.1.0 in
+      let below = closes.1.1 in (
         (sent_run rules frame stations (first_known 5)).bytes,
         ap bytes_in (readings_are_sent rules Some prompt [] old new events [] (batches_of rules stations) reading closes.0).0,
         shown.row ∙ below.row,
@@ -185,14 +178,14 @@ module _ (it : AnsiTerminal Wrote) where
 
   ended_by_bytes : let last = ended new.writer in
       (last.row ≡ 2) × (last.col ≡ 0) × (last.cell 0 0 ≡ 65) × (last.cell 1 0 ≡ 62) × (last.cell 1 3 ≡ 98) × (last.cell 1 4 ≡ 32) × (last.cell 2 0 ≡ 32)
-  unfolding pieces column_width painted_on apply destination searched_again search_step boundary_below is_boundary iterate greatest_below least_from unicode_segmentation digits
+  unfolding glyphs pieces column_width painted_on apply destination searched_again search_step boundary_below is_boundary iterate greatest_below least_from unicode_segmentation digits
   ended_by_bytes = (refl, refl, refl, refl, refl, refl, refl)
 
   -- not a row higher, and no C stands below
   ended_is_below : (ended new.writer).row ≡ 1 → ⊥
-  unfolding pieces column_width painted_on apply destination searched_again search_step boundary_below is_boundary iterate greatest_below least_from unicode_segmentation digits
+  unfolding glyphs pieces column_width painted_on apply destination searched_again search_step boundary_below is_boundary iterate greatest_below least_from unicode_segmentation digits
   ended_is_below higher = let off : 2 ≡ 1 = higher in omega (arith, off)
 
   ended_is_fresh : (ended new.writer).cell 3 0 ≡ 68 → ⊥
-  unfolding pieces column_width painted_on apply destination searched_again search_step boundary_below is_boundary iterate greatest_below least_from unicode_segmentation digits
+  unfolding glyphs pieces column_width painted_on apply destination searched_again search_step boundary_below is_boundary iterate greatest_below least_from unicode_segmentation digits
   ended_is_fresh stale = let off : 32 ≡ 68 = stale in omega (arith, off)

@@ -3,7 +3,7 @@
 use Rattle.std.proofs.Common.{false, ◌+◌, ◌≡◌, ◌≢◌, ℕ, List, [], ◌∷◌, ◌++◌, length, refl, sym, ap, subst, None, Some, Option, Bool, map, min, codes, get_or, neg_ℤ, ◌∙◌, arith}
 use Rattle.std.specs.List.{AllByRecursion}
 use Rattle.std.proofs.lemmas.Bool.{false≢true}
-use Rattle.std.proofs.lemmas.List.Elements.{All-nil, All-cons}
+use Rattle.std.proofs.lemmas.List.Elements.{All-nil}
 use Rattle.std.specs.Fmt.{digits}
 use Rattle.unicode_segmentation.proofs.Computing.{unicode_segmentation}
 use Rattle.tw_surface.specs.declared.change.Position.TheVariants.{Relative}
@@ -11,8 +11,7 @@ use Rattle.tw_surface.specs.ChangeView.{Batch}
 use Rattle.tw_surface.specs.Defaults.{default_attributes}
 use Rattle.tw_surface.specs.Paintings.{Mark}
 use Rattle.tw_surface.specs.Scenes.{IsPlain}
-use Rattle.tw_surface.specs.Simple.{IsSimpleWide}
-use Rattle.laws_screens.specs.Screens.{HasRoom}
+use Rattle.laws_screens.specs.Glyphs.{glyphs}
 use Rattle.laws_screens.specs.StyledCells.{characters}
 use Rattle.tw_surface.specs.PaintingBatches.{shot_of, closing_if, mark_after}
 use Rattle.tw_surface.specs.Width.{column_width}
@@ -48,6 +47,7 @@ use Rattle.tw_device.specs.declared.reading.Answer.TheVariants.{Cancelled}
 use Rattle.tw_device.specs.declared.terminal.AnsiTerminal.{AnsiTerminal}
 use Rattle.laws_runs.specs.SentReadings.{reading_frame}
 use Rattle.laws_runs.specs.Rests.{Rests, Receives, IsTypedStation, HealsResized}
+use Rattle.tw_ansi.proofs.EcmaPaintings.{plain_sent}
 use Rattle.laws_runs.specs.SentRuns.{HealsSent}
 use Rattle.laws_runs.specs.DrawnRuns.{since_batches}
 use Rattle.laws_runs.specs.SizedReadings.{sent_sized, stations_sized, run_sized, IsSizedReading}
@@ -55,7 +55,7 @@ use Rattle.laws_runs.proofs.RestedRunLemmas.{resized_heals}
 use Rattle.laws_runs.proofs.HealedClosingLemmas.{healed_closings_are_shown}
 use Rattle.laws_runs.proofs.HealingLemmas.{healings_are_shown}
 use Rattle.laws_runs.proofs.SizedRunLemmas.{readings_are_sized, since_is_sent_whole}
-use Rattle.laws_runs.proofs.WorkedParts.{Lines, rules, nth, nth_batch, painting_in, bytes_in, simple, room, carries, csi, prompted, to_right, closing_bytes, Wrote, with_batch, with_size, flushed_now, takes, is_sized, flushes}
+use Rattle.laws_runs.proofs.WorkedParts.{Lines, rules, nth, nth_batch, painting_in, bytes_in, plain_alike, all_low, carries, joins, csi, prompted, to_right, closing_bytes, Wrote, with_batch, with_size, flushed_now, takes, is_sized, flushes}
 
 -- a move back from a painting, if there is one, that leads no further than a move can
 abbrev IsBack : Option Mark → Type 0
@@ -126,7 +126,7 @@ module _ (it : AnsiTerminal Wrote) where
 
   -- event by event the terminal was led so, beside the run
   led_along : IsLedAlong terminal_state (Does Some) (taken_over rules begun) events old new
-  unfolding pieces column_width painted_on apply destination searched_again search_step boundary_below is_boundary iterate greatest_below least_from
+  unfolding glyphs pieces column_width painted_on apply destination searched_again search_step boundary_below is_boundary iterate greatest_below least_from
   led_along = (
     painted,
     painted,
@@ -151,11 +151,11 @@ module _ (it : AnsiTerminal Wrote) where
   )
 
   reads : Reads whole begun (frame_of (record { state = record whole.state { mode = Inactive }; mark = None }) whole.value (terminal_state new)) (outcome_in Cancelled)
-  unfolding pieces column_width painted_on apply destination searched_again search_step boundary_below is_boundary iterate greatest_below least_from
+  unfolding glyphs pieces column_width painted_on apply destination searched_again search_step boundary_below is_boundary iterate greatest_below least_from
   reads = record { answer_is = refl; batches = refl; left = refl; size = refl; state = refl; value = refl; mark = refl; flushed = refl; failures = refl }
 
   reading : IsSizedReading rules Some prompt [] old new events (63 ∷ [])
-  unfolding pieces column_width painted_on apply destination searched_again search_step boundary_below is_boundary iterate greatest_below least_from
+  unfolding glyphs pieces column_width painted_on apply destination searched_again search_step boundary_below is_boundary iterate greatest_below least_from
   reading = record {
     before = [];
     after = events;
@@ -188,19 +188,19 @@ module _ (it : AnsiTerminal Wrote) where
 
   -- all that was written
   written_is : new.writer ≡ 63 ∷ before_clearing ++ (clearing_on ++ cancelled_on)
-  unfolding pieces column_width painted_on apply destination searched_again search_step boundary_below is_boundary iterate greatest_below least_from unicode_segmentation digits
+  unfolding glyphs pieces column_width painted_on apply destination searched_again search_step boundary_below is_boundary iterate greatest_below least_from unicode_segmentation digits
   written_is = refl
 
   -- not with a byte less
   written_is_whole : length new.writer ≡ 168 → ⊥
-  unfolding pieces column_width painted_on apply destination searched_again search_step boundary_below is_boundary iterate greatest_below least_from unicode_segmentation digits
+  unfolding glyphs pieces column_width painted_on apply destination searched_again search_step boundary_below is_boundary iterate greatest_below least_from unicode_segmentation digits
   written_is_whole less = let off : 169 ≡ 168 = less in omega (arith, off)
 
   -- what is sent for five columns all along leads to column 1, as where the line wraps
   at_five : (sent_batches (whole.taken ++ closing_if whole.mark) (first_known 5)).bytes
       ≡ prompted (to_right (codes "2C") (13 ∷ prompted (codes "abcd" ++ to_right (codes "1C") (csi (codes "1A") (13 ∷ prompted (codes "abcd" ++ to_right (codes "1C")
       (csi (codes "H") (csi (codes "2J") (13 ∷ prompted (codes "abcd" ++ to_right (codes "1C") (13 ∷ prompted (codes "abcd" ++ to_right (codes "1C") closing_bytes))))))))))))
-  unfolding pieces column_width painted_on apply destination searched_again search_step boundary_below is_boundary iterate greatest_below least_from unicode_segmentation digits
+  unfolding glyphs pieces column_width painted_on apply destination searched_again search_step boundary_below is_boundary iterate greatest_below least_from unicode_segmentation digits
   at_five = refl
 
   -- and was not written
@@ -225,32 +225,29 @@ module _ (it : AnsiTerminal Wrote) where
   known = record (sent_sized (stations_sized rules earlier) (first_known 5)).next { cols = 10 }
 
   plain_at : (IsPlain (sized_scene rules (at 3)).scene) × (IsPlain (sized_scene rules (at 4)).scene)
-  unfolding pieces column_width painted_on apply destination searched_again search_step boundary_below is_boundary iterate greatest_below least_from
+  unfolding glyphs pieces column_width painted_on apply destination searched_again search_step boundary_below is_boundary iterate greatest_below least_from
   plain_at = (record { prompt = refl; line = refl; lower = tt }, record { prompt = refl; line = refl; lower = tt })
 
   back : (m : Mark) → mark_after None (map shot_of (map (sized_scene rules) earlier)) ≡ Some m → IsReached 4 (Relative (neg_ℤ m.row))
-  unfolding pieces column_width painted_on apply destination searched_again search_step boundary_below is_boundary iterate greatest_below least_from
+  unfolding glyphs pieces column_width painted_on apply destination searched_again search_step boundary_below is_boundary iterate greatest_below least_from
   back m is = subst IsBack is (omega arith)
 
   -- a terminal that shows anything, its cursor anywhere
-  module _ (cell : ℕ → ℕ → ℕ) (row col : ℕ) (waits : Bool) where
+  module _ (cell : ℕ → ℕ → ℕ) (row col last : ℕ) (waits : Bool) where
     abbrev anything : EcmaScreen ℕ
-    anything = record { cell = cell; row = row; col = col; waits = waits; rendition = default_attributes; reading = terminal.Text }
+    anything = record { cell = cell; row = row; col = col; waits = waits; last = last; rendition = default_attributes; reading = terminal.Text }
 
-    heals : HealsSent rules characters 4 10 frame earlier [] (at 3) (at 4 ∷ []) known anything
-    unfolding pieces column_width painted_on apply destination searched_again search_step boundary_below is_boundary iterate greatest_below least_from unicode_segmentation digits
+    heals : HealsSent rules characters 4 10 frame earlier [] (at 3) (at 4 ∷ []) [] (sized_scene rules (at 3)) known anything
+    unfolding glyphs pieces column_width painted_on apply destination searched_again search_step boundary_below is_boundary iterate greatest_below least_from unicode_segmentation digits
     heals = record {
       comes = record {
-        nothing_painted = refl;
-        stations = refl;
-        painting = painting_in (station_painting rules (at 3));
-        painted = refl;
+        comes = record { nothing_painted = refl; stations = refl; painting = painting_in (station_painting rules (at 3)); painted = refl };
         cleared = refl;
-        simple = All-cons IsSimpleWide (sized_scene rules (at 3)) [] (simple (sized_scene rules (at 3)) (omega arith) plain_at.0) (All-nil IsSimpleWide);
-        low = All-cons (HasRoom (Some 4) characters) (sized_scene rules (at 3)) [] (room (Some 4) (sized_scene rules (at 3)) plain_at.0 (omega arith)) (All-nil (HasRoom (Some 4) characters));
+        alike = plain_alike (sized_scene rules (at 3) ∷ []) ((omega arith, plain_at.0), tt);
+        low = all_low (Some 4) (sized_scene rules (at 3) ∷ []) (omega arith, tt);
         in_sight = omega arith;
       };
-      sent = (record { cols = refl; showable = record { typed = record { prompt = (refl, tt); line = (refl, tt); lower = tt }; near = omega arith; back = omega arith; under = omega arith } }, tt);
+      sent = (record { cols = refl; showable = record { typed = record { prompt = (plain_sent 10 _ refl, tt); line = (plain_sent 10 _ refl, tt); lower = tt }; near = omega arith; back = omega arith; under = omega arith } }, tt);
       back = back;
       narrow = omega arith;
       color = tt;
@@ -263,9 +260,9 @@ module _ (it : AnsiTerminal Wrote) where
     healed = receive_all characters 4 10 clearing_on anything
 
     healed_by_law : (healed.row ≡ 0) × (healed.col ≡ 6) × (healed.cell 0 5 ≡ 100) × (healed.cell 1 0 ≡ 32)
-    unfolding pieces column_width painted_on apply destination searched_again search_step boundary_below is_boundary iterate greatest_below least_from unicode_segmentation digits
+    unfolding glyphs pieces column_width painted_on apply destination searched_again search_step boundary_below is_boundary iterate greatest_below least_from unicode_segmentation digits
     healed_by_law =
-        let s = healings_are_shown characters rules frame 4 10 earlier [] (at 3) (at 4 ∷ []) known anything carries heals in
+        let s = healings_are_shown characters rules frame 4 10 earlier [] (at 3) (at 4 ∷ []) [] (sized_scene rules (at 3)) known anything carries joins heals in
         let fresh = s.2 in (
           s.1.row ∙ fresh.row,
           s.1.col ∙ ap (λ c. min c 9) fresh.col,
@@ -274,7 +271,7 @@ module _ (it : AnsiTerminal Wrote) where
         )
 
     healed_by_bytes : (healed.row ≡ 0) × (healed.col ≡ 6) × (healed.cell 0 5 ≡ 100) × (healed.cell 1 0 ≡ 32) × (healed.cell 3 9 ≡ 32)
-    unfolding pieces column_width painted_on apply destination searched_again search_step boundary_below is_boundary iterate greatest_below least_from unicode_segmentation digits
+    unfolding glyphs pieces column_width painted_on apply destination searched_again search_step boundary_below is_boundary iterate greatest_below least_from unicode_segmentation digits
     healed_by_bytes = (refl, refl, refl, refl, refl)
 
     -- not where the line wraps at five columns, and not what stood there
@@ -286,24 +283,19 @@ module _ (it : AnsiTerminal Wrote) where
 
     -- ---- to the end
 
-    heals_to_end : HealsSent rules characters 4 10 frame earlier (at 3 ∷ []) (at 4) [] known anything
-    unfolding pieces column_width painted_on apply destination searched_again search_step boundary_below is_boundary iterate greatest_below least_from unicode_segmentation digits
+    heals_to_end : HealsSent rules characters 4 10 frame earlier (at 3 ∷ []) (at 4) [] (sized_scene rules (at 3) ∷ []) (sized_scene rules (at 4)) known anything
+    unfolding glyphs pieces column_width painted_on apply destination searched_again search_step boundary_below is_boundary iterate greatest_below least_from unicode_segmentation digits
     heals_to_end = record {
       comes = record {
-        nothing_painted = refl;
-        stations = refl;
-        painting = painting_in (station_painting rules (at 4));
-        painted = refl;
+        comes = record { nothing_painted = refl; stations = refl; painting = painting_in (station_painting rules (at 4)); painted = refl };
         cleared = refl;
-        simple = All-cons IsSimpleWide (sized_scene rules (at 3)) (sized_scene rules (at 4) ∷ []) (simple (sized_scene rules (at 3)) (omega arith) plain_at.0)
-            (All-cons IsSimpleWide (sized_scene rules (at 4)) [] (simple (sized_scene rules (at 4)) (omega arith) plain_at.1) (All-nil IsSimpleWide));
-        low = All-cons (HasRoom (Some 4) characters) (sized_scene rules (at 3)) (sized_scene rules (at 4) ∷ []) (room (Some 4) (sized_scene rules (at 3)) plain_at.0 (omega arith))
-            (All-cons (HasRoom (Some 4) characters) (sized_scene rules (at 4)) [] (room (Some 4) (sized_scene rules (at 4)) plain_at.1 (omega arith)) (All-nil (HasRoom (Some 4) characters)));
+        alike = plain_alike (sized_scene rules (at 3) ∷ sized_scene rules (at 4) ∷ []) ((omega arith, plain_at.0), ((omega arith, plain_at.1), tt));
+        low = all_low (Some 4) (sized_scene rules (at 3) ∷ sized_scene rules (at 4) ∷ []) (omega arith, (omega arith, tt));
         in_sight = omega arith;
       };
       sent = (
-        record { cols = refl; showable = record { typed = record { prompt = (refl, tt); line = (refl, tt); lower = tt }; near = omega arith; back = omega arith; under = omega arith } },
-        (record { cols = refl; showable = record { typed = record { prompt = (refl, tt); line = (refl, tt); lower = tt }; near = omega arith; back = omega arith; under = omega arith } }, tt),
+        record { cols = refl; showable = record { typed = record { prompt = (plain_sent 10 _ refl, tt); line = (plain_sent 10 _ refl, tt); lower = tt }; near = omega arith; back = omega arith; under = omega arith } },
+        (record { cols = refl; showable = record { typed = record { prompt = (plain_sent 10 _ refl, tt); line = (plain_sent 10 _ refl, tt); lower = tt }; near = omega arith; back = omega arith; under = omega arith } }, tt),
       );
       back = back;
       narrow = omega arith;
@@ -318,13 +310,13 @@ module _ (it : AnsiTerminal Wrote) where
 
     -- the law names some bytes, which are those that were written
     ended_by_law : (bytes : List ℕ) × (new.writer ≡ 63 ∷ before_clearing ++ bytes) × ((ended bytes).row ≡ 1) × ((ended bytes).col ≡ 0) × ((ended bytes).cell 1 0 ≡ 32)
-    unfolding pieces column_width painted_on apply destination searched_again search_step boundary_below is_boundary iterate greatest_below least_from unicode_segmentation digits
+    unfolding glyphs pieces column_width painted_on apply destination searched_again search_step boundary_below is_boundary iterate greatest_below least_from unicode_segmentation digits
     ended_by_law =
-        let closes = healed_closings_are_shown characters rules frame 4 10 earlier (at 3 ∷ []) (at 4) [] known anything carries heals_to_end (All-nil (RendersNothing rules)) in
-        let sent = since_is_sent_whole rules Some prompt [] old new events (63 ∷ []) 4 10 earlier (at 3 ∷ []) (at 4) reading heals_to_end.comes.stations heals_to_end.sent in
+        let closes = healed_closings_are_shown characters rules frame 4 10 earlier (at 3 ∷ []) (at 4) [] (sized_scene rules (at 3) ∷ []) (sized_scene rules (at 4)) known anything carries joins heals_to_end (All-nil (RendersNothing rules)) in
+        let sent = since_is_sent_whole rules Some prompt [] old new events (63 ∷ []) 4 10 earlier (at 3 ∷ []) (at 4) (record { reading = reading; stations = refl; sent = heals_to_end.sent }) in
         let taken = map (λ sized. sized.batch) (since_batches rules earlier (at 3 ∷ at 4 ∷ [])) in
-        let shown = closes.3 in
-        let below = closes.4 in (
+        let shown = closes.3.0 in
+        let below = closes.3.1 in (
           (sent_batches (taken ++ closing_if (run_of rules frame).mark) known).bytes,
           ap bytes_in sent.0,
           shown.row ∙ below.row,
@@ -344,26 +336,26 @@ module _ (it : AnsiTerminal Wrote) where
     -- columns and again after it
 
     abbrev fresh : EcmaScreen ℕ
-    fresh = record { cell = λ r c. 65 + r; row = 1; col = 0; waits = false; rendition = default_attributes; reading = terminal.Text }
+    fresh = record { cell = λ r c. 65 + r; row = 1; col = 0; waits = false; last = 0; rendition = default_attributes; reading = terminal.Text }
 
     abbrev one : EcmaScreen ℕ
     one = receive_all characters 4 5 (sent_batch (batch 0) (first_known 5)).bytes fresh
 
     reached : Receives characters (stations_sized rules earlier) (first_known 5) fresh anything
-    unfolding pieces column_width painted_on apply destination searched_again search_step boundary_below is_boundary iterate greatest_below least_from unicode_segmentation digits
+    unfolding glyphs pieces column_width painted_on apply destination searched_again search_step boundary_below is_boundary iterate greatest_below least_from unicode_segmentation digits
     reached = (4, 5, fresh, (refl, refl), (4, 5, one, (refl, refl), (4, 10, anything, (refl, refl), (refl, refl))))
 
     typed_earlier : AllByRecursion IsTypedStation (map (sized_scene rules) earlier)
-    unfolding pieces column_width painted_on apply destination searched_again search_step boundary_below is_boundary iterate greatest_below least_from
+    unfolding glyphs pieces column_width painted_on apply destination searched_again search_step boundary_below is_boundary iterate greatest_below least_from
     typed_earlier = (
-      record { typed = record { prompt = (refl, tt); line = (refl, tt); lower = tt }; narrow = omega arith },
+      record { typed = record { prompt = (plain_sent _ _ refl, tt); line = (plain_sent _ _ refl, tt); lower = tt }; narrow = omega arith },
       (
-        record { typed = record { prompt = (refl, tt); line = (refl, tt); lower = tt }; narrow = omega arith },
-        (record { typed = record { prompt = (refl, tt); line = (refl, tt); lower = tt }; narrow = omega arith }, tt),
+        record { typed = record { prompt = (plain_sent _ _ refl, tt); line = (plain_sent _ _ refl, tt); lower = tt }; narrow = omega arith },
+        (record { typed = record { prompt = (plain_sent _ _ refl, tt); line = (plain_sent _ _ refl, tt); lower = tt }; narrow = omega arith }, tt),
       ),
     )
 
-    resized : HealsResized rules characters 4 10 frame earlier [] (at 3) (at 4 ∷ []) (first_known 5) fresh anything
+    resized : HealsResized rules characters 4 10 frame earlier [] (at 3) (at 4 ∷ []) [] (sized_scene rules (at 3)) (first_known 5) fresh anything
     resized = record {
       comes = heals.comes;
       sent = heals.sent;
@@ -375,8 +367,8 @@ module _ (it : AnsiTerminal Wrote) where
       received = reached;
     }
 
-    heals_again : HealsSent rules characters 4 10 frame earlier [] (at 3) (at 4 ∷ []) known anything
-    heals_again = resized_heals characters rules 4 10 frame earlier [] (at 3) (at 4 ∷ []) (first_known 5) fresh anything resized
+    heals_again : HealsSent rules characters 4 10 frame earlier [] (at 3) (at 4 ∷ []) [] (sized_scene rules (at 3)) known anything
+    heals_again = resized_heals characters rules 4 10 frame earlier [] (at 3) (at 4 ∷ []) [] (sized_scene rules (at 3)) (first_known 5) fresh anything resized
 
     -- one that has read an ESC is not at rest
     not_at_rest : Rests default_attributes (record anything { reading = terminal.Escaped }) → ⊥

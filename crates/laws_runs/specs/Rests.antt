@@ -36,9 +36,9 @@ Receives pen [] e t u = IsReshaped t u
 Receives {A} {C} pen (sized ∷ more) e t u =
     (h : ℕ) × (w : ℕ) × (s : EcmaScreen C) × IsReshaped t s × Receives pen more (sent_at sized e).next (receive_all pen h w (sent_at sized e).bytes s) u
 
--- a station of plain texts and of colours by bytes
+-- a station of texts that are sent as they are measured, and of colours by bytes
 pub record IsTypedStation (station : SizedScene) : Type 0 where
-  pub typed : IsTypedScene station.scene
+  pub typed : IsTypedScene station.cols station.scene
   pub narrow : station.cols < 2 ^ 64
 
 module _ {V A C : Type 0} (rules : HostRules V) (pen : Pen A C) where
@@ -52,8 +52,9 @@ module _ {V A C : Type 0} (rules : HostRules V) (pen : Pen A C) where
 
   -- As in `HealsSent`, and what is known of the terminal is known where the run begins: it is at rest there, and
   -- receives what is sent up to the clearing, whatever becomes of its size meanwhile.
-  pub record HealsResized (h w : ℕ) (f : Frame V) (earlier since : List (Station V)) (station : Station V) (later : List (Station V)) (e : Encoder) (first t : EcmaScreen C) : Type 0 where
-    pub comes : ComesHealed rules pen (Some h) f earlier since station later
+  pub record HealsResized (h w : ℕ) (f : Frame V) (earlier since : List (Station V)) (station : Station V) (later : List (Station V))
+      (measured : List SizedScene) (last : SizedScene) (e : Encoder) (first t : EcmaScreen C) : Type 0 where
+    pub comes : ComesHealed rules pen (Some h) f earlier since station later measured last
     pub sent : AllByRecursion (IsSentAt h w) (map (sized_scene rules) (since ++ station ∷ []))
     pub back : (m : Mark) → mark_after None (map shot_of (map (sized_scene rules) earlier)) ≡ Some m → IsReached h (Relative (neg_ℤ m.row))
     pub narrow : w < 2 ^ 64
@@ -64,6 +65,7 @@ module _ {V A C : Type 0} (rules : HostRules V) (pen : Pen A C) where
 
   -- Such a terminal is one that a clearing heals.
   abbrev pub ResizedHeals : Type 0
-  ResizedHeals = (h w : ℕ) (f : Frame V) (earlier since : List (Station V)) (station : Station V) (later : List (Station V)) (e : Encoder) (first t : EcmaScreen C)
-      → HealsResized h w f earlier since station later e first t
-      → HealsSent rules pen h w f earlier since station later (record (sent_sized (stations_sized rules earlier) e).next { cols = w }) t
+  ResizedHeals = (h w : ℕ) (f : Frame V) (earlier since : List (Station V)) (station : Station V) (later : List (Station V))
+      (measured : List SizedScene) (last : SizedScene) (e : Encoder) (first t : EcmaScreen C)
+      → HealsResized h w f earlier since station later measured last e first t
+      → HealsSent rules pen h w f earlier since station later measured last (record (sent_sized (stations_sized rules earlier) e).next { cols = w }) t

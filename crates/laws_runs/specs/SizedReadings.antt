@@ -1,6 +1,7 @@
 -- What a reading has written whose events tell other numbers of columns.
 use Rattle.std.specs.Prelude.{◌≡◌, ◌≢◌, ℕ, Some, Option, List, [], ◌∷◌, ◌++◌, map}
 use Rattle.std.specs.List.{AllByRecursion}
+use Rattle.tw_surface.specs.ChangeView.{Batch}
 use Rattle.tw_surface.specs.PaintingBatches.{closing_if}
 use Rattle.laws_screens.specs.SizedBatches.{SizedBatch, sized_at, sized_batches}
 use Rattle.tw_input.specs.EventView.{EventView}
@@ -10,7 +11,6 @@ use Rattle.tw_lineedit.specs.Frame.{Frame}
 use Rattle.tw_lineedit.specs.Run.{run_of}
 use Rattle.tw_lineedit.specs.ScreenRuns.{sized_scene}
 use Rattle.tw_lineedit.specs.Stations.{Station, stations_of}
-use Rattle.laws_runs.specs.DrawnRuns.{since_batches}
 use Rattle.tw_ansi.specs.declared.encode.Encoder.{Encoder}
 use Rattle.tw_ansi.specs.Encoding.{Sent, sends, sent_then, sent_batch}
 use Rattle.tw_ansi.specs.EcmaPaintings.{sent_batches}
@@ -22,7 +22,7 @@ use Rattle.tw_device.specs.declared.keys.SourceState.{SourceState}
 use Rattle.tw_device.specs.declared.reading.Answer.{Answer}
 use Rattle.tw_device.specs.declared.terminal.AnsiTerminal.{AnsiTerminal}
 use Rattle.laws_runs.specs.SentReadings.{reading_frame}
-use Rattle.laws_runs.specs.SentRuns.{IsSentAt}
+use Rattle.laws_runs.specs.SentRuns.{IsSentAt, taken_since}
 
 -- what a batch is sent as, for the columns that the screen has when it comes
 abbrev pub sent_at : SizedBatch → Encoder → Sent
@@ -66,29 +66,39 @@ module _ {V W : Type 0} (rules : HostRules V) (contents : W → Option (List ℕ
       → let sent = sent_sized (run_sized rules (reading_frame prompt value old events)) old.sent.encoder in
       (contents new.writer ≡ Some (held ++ sent.bytes)) × (new.sent.encoder ≡ sent.next) × (new.sent.encoder.cols ≡ new.size.cols)
 
-  -- A changed size is followed from the next clearing on: the bytes of the stations since then, which are sent at w
-  -- columns, come after those of the earlier ones, whatever columns these were sent at. Without earlier ones they are
-  -- the first bytes.
+  -- It comes to a clearing: the stations since then, up to this one, are sent at w columns to a terminal of h rows.
+  pub record IsSizedSince (prompt : List ℕ) (value : V) (old new : AnsiTerminal W) (events : List EventView) (held : List ℕ)
+      (h w : ℕ) (earlier since : List (Station V)) (station : Station V) (later : List (Station V)) : Type 0 where
+    pub reading : IsSizedReading prompt value old new events held
+    pub stations : stations_of rules (reading_frame prompt value old events) ≡ earlier ++ (since ++ station ∷ later)
+    pub sent : AllByRecursion (IsSentAt h w) (map (sized_scene rules) (since ++ station ∷ []))
+
+  -- what is sent up to the clearing, at whatever columns, and what batches are sent as from there on
+  abbrev pub sent_before : AnsiTerminal W → List (Station V) → Sent
+  sent_before old earlier = sent_sized (stations_sized rules earlier) old.sent.encoder
+
+  abbrev pub sent_from : AnsiTerminal W → ℕ → List (Station V) → List Batch → Sent
+  sent_from old w earlier batches = sent_batches batches (record (sent_before old earlier).next { cols = w })
+
+  -- A changed size is followed from the next clearing on: the bytes of the stations since then come after those of the
+  -- earlier ones, whatever columns these were sent at. Without earlier ones they are the first bytes.
   abbrev pub SinceIsSent : Type 0
   SinceIsSent = (prompt : List ℕ) (value : V) (old new : AnsiTerminal W) (events : List EventView) (held : List ℕ)
       (h w : ℕ) (earlier since : List (Station V)) (station : Station V) (later : List (Station V))
-      → IsSizedReading prompt value old new events held
-      → stations_of rules (reading_frame prompt value old events) ≡ earlier ++ (since ++ station ∷ later)
-      → AllByRecursion (IsSentAt h w) (map (sized_scene rules) (since ++ station ∷ []))
-      → let before = sent_sized (stations_sized rules earlier) old.sent.encoder in
-      let sent = sent_batches (map (λ sized. sized.batch) (since_batches rules earlier (since ++ station ∷ []))) (record before.next { cols = w }) in
-      (rest : List ℕ) × (contents new.writer ≡ Some (held ++ (before.bytes ++ (sent.bytes ++ rest))))
+      → IsSizedSince prompt value old new events held h w earlier since station later
+      → let sent = sent_from old w earlier (taken_since rules earlier since station) in
+      (rest : List ℕ) × (contents new.writer ≡ Some (held ++ ((sent_before old earlier).bytes ++ (sent.bytes ++ rest))))
 
-  -- Where that station is the last one, only those of the closing batch come after them, and what is known of the
-  -- terminal is known after those.
+  -- What was written ends with them and with those of the closing batch, and what is known of the terminal is known
+  -- after those.
+  abbrev pub EndsSince : Frame V → AnsiTerminal W → AnsiTerminal W → List ℕ → ℕ → List (Station V) → List (Station V) → Station V → Type 0
+  EndsSince f old new held w earlier since station =
+      let sent = sent_from old w earlier (taken_since rules earlier since station ++ closing_if (run_of rules f).mark) in
+      (contents new.writer ≡ Some (held ++ ((sent_before old earlier).bytes ++ sent.bytes))) × (new.sent.encoder ≡ sent.next)
+
+  -- So it is where that station is the last one.
   abbrev pub SinceIsSentWhole : Type 0
   SinceIsSentWhole = (prompt : List ℕ) (value : V) (old new : AnsiTerminal W) (events : List EventView) (held : List ℕ)
       (h w : ℕ) (earlier since : List (Station V)) (station : Station V)
-      → IsSizedReading prompt value old new events held
-      → let f = reading_frame prompt value old events in
-      stations_of rules f ≡ earlier ++ (since ++ station ∷ [])
-      → AllByRecursion (IsSentAt h w) (map (sized_scene rules) (since ++ station ∷ []))
-      → let before = sent_sized (stations_sized rules earlier) old.sent.encoder in
-      let taken = map (λ sized. sized.batch) (since_batches rules earlier (since ++ station ∷ [])) in
-      let sent = sent_batches (taken ++ closing_if (run_of rules f).mark) (record before.next { cols = w }) in
-      (contents new.writer ≡ Some (held ++ (before.bytes ++ sent.bytes))) × (new.sent.encoder ≡ sent.next)
+      → IsSizedSince prompt value old new events held h w earlier since station []
+      → EndsSince (reading_frame prompt value old events) old new held w earlier since station

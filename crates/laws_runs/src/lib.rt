@@ -1,7 +1,7 @@
 //! What screens show while the batches of a run of the editor are played on them, and terminals that are sent its
 //! bytes.
 //!
-//! Characters, also under their attributes, on a screen without a bottom, one of some rows, which scrolls, one that
+//! Clusters, also under their attributes, on a screen without a bottom, one of some rows, which scrolls, one that
 //! was cleared, and one that cuts its rows to its columns. Use this crate to prove what a reading shows: each law is
 //! the contract of a function that does nothing, and holds for the run from every frame; that a call took the batches
 //! of its run is what `read_line` of `tw_lineedit` says.
@@ -10,16 +10,16 @@
 //!
 //! ```antt
 //! abbrev pub Paintings : Type 0
-//! Paintings = (f : Frame V) → RunIsFresh f
+//! Paintings = (f : Frame V) → RunIsFresh rules f
 //! ..
 //! abbrev pub Closings : Type 0
-//! Closings = (f : Frame V) → RunClosesBelow f
+//! Closings = (f : Frame V) → RunClosesBelow rules f
 //! ```
 #![tactic(auto)]
 
 ghost use Rattle.std.specs.Prelude.{List, Option, ℕ};
 ghost use Rattle.laws_runs.specs.DrawnRuns.{DrawnCallsStack, DrawnClosings, DrawnHealings, DrawnPaintings, HealedClosings};
-ghost use Rattle.laws_runs.specs.PlainRuns.{CallsStack, Closings, Paintings, PaintsNothing, ShownRuns};
+ghost use Rattle.laws_runs.specs.PlainRuns.{CallsStack, Closings, Paintings, PaintsNothing};
 ghost use Rattle.laws_screens.specs.Pens.{Pen};
 ghost use Rattle.laws_runs.specs.Rests.{ResizedHeals, RestIsKept};
 ghost use Rattle.laws_runs.specs.SentReadings.{ReadingsAreSent};
@@ -36,12 +36,10 @@ pub fn plain_runs<H: LineEditorHost>()
     ensures closing_batch { Closings H.rules }
 {}
 
-/// What `shows` of `read_line` says of a call that was answered, with the batches of its run, gives these two for its
-/// run. And a call that took no batch breaks it, where its run begins plainly: if it was answered, and also if memory
-/// or the terminal stopped it after its first event.
+/// A call that took no batch breaks `shows` of `read_line`, where its run begins plainly: if it was answered, and also
+/// if memory or the terminal stopped it after its first event.
 pub fn shown_calls<H: LineEditorHost>()
-    ensures runs { ShownRuns H.rules (Option (List ℕ)) }
-    ensures nothing { PaintsNothing H.rules (Option (List ℕ)) }
+    ensures { PaintsNothing H.rules (Option (List ℕ)) }
 {}
 
 /// Calls stack: what a second call paints, while it clears nothing, is fresh under what the first one left,
@@ -50,10 +48,10 @@ pub fn stacking<H: LineEditorHost>()
     ensures { CallsStack H.rules }
 {}
 
-/// After each painting of a run of simple texts, whose clusters are one character of one column each, a screen of any
-/// kind of cells shows the fresh painting of its station: characters alone, or with their attributes, on some rows or
-/// without a bottom, cut to its columns or not. The closing batch ends below it, calls stack, and a clearing heals
-/// whatever was shown and painted before.
+/// After each painting of a run whose stations are measured, or have rows, a screen of any kind of cells that measures
+/// texts as the editor does shows the fresh painting of its station: clusters, with or without their attributes, on some
+/// rows or without a bottom, cut to its columns or not. The closing batch ends below its last row, calls stack, and a
+/// clearing heals whatever was shown and painted before.
 pub fn drawn_runs<H: LineEditorHost, A, C>()
     ensures painting { (pen : Pen A C) → DrawnPaintings H.rules pen }
     ensures closing { (pen : Pen A C) → DrawnClosings H.rules pen }
@@ -62,10 +60,11 @@ pub fn drawn_runs<H: LineEditorHost, A, C>()
     ensures healed_closing { (pen : Pen A C) → HealedClosings H.rules pen }
 {}
 
-/// A terminal that shows a picture, its cursor in column 0, and is sent the bytes of a run's batches up to a painting,
-/// shows that station's fresh painting, and what stood above it, moved up; and after those of the closing batch its
-/// cursor is in column 0 of the row below, with blanks from there on. One that may show anything shows a fresh painting
-/// after a clearing, and the row below it after the closing batch.
+/// A terminal that shows a picture, its cursor in column 0, and is sent the bytes of such a run's batches up to a
+/// painting, shows that station's fresh painting, and what stood above it, moved up; and after those of the closing batch
+/// its cursor is in column 0 of the row below, with blanks from there on. One that may show anything shows a fresh
+/// painting after a clearing, and the row below it after the closing batch. The texts are plain, or each cluster is one
+/// character and its marks.
 pub fn sent_runs<H: LineEditorHost, A, C>()
     ensures paintings { (pen : Pen A C) → PaintingsAreShown H.rules pen }
     ensures closings { (pen : Pen A C) → ClosingsAreShown H.rules pen }
@@ -74,7 +73,7 @@ pub fn sent_runs<H: LineEditorHost, A, C>()
 {}
 
 /// The bytes that `read_line_from` has written, if it was answered and no event told another number of columns, are
-/// those of its run's batches: so a terminal shows what `sent_runs` says of the run, or `sent_rows` of `laws_prompt`.
+/// those of its run's batches: so a terminal shows what `sent_runs` says of the run.
 pub fn sent_readings<H: LineEditorHost, W: Write>()
     ensures { ReadingsAreSent H.rules W.contents }
 {}
@@ -89,8 +88,8 @@ pub fn sized_readings<H: LineEditorHost, W: Write>()
     ensures whole { SinceIsSentWhole H.rules W.contents }
 {}
 
-/// What is sent of stations of plain texts and of colours by bytes leaves a terminal at rest under the attributes that
-/// are known then, whatever becomes of its size, its cells and its cursor between the batches. So a terminal that was
+/// What is sent of stations of such texts and of colours by bytes leaves a terminal at rest under the attributes that are
+/// known then, whatever becomes of its size, its cells and its cursor between the batches. So a terminal that was
 /// at rest where a reading began, and has changed its size since, is one that the next clearing heals.
 pub fn rested<H: LineEditorHost, A, C>()
     ensures kept { (pen : Pen A C) → RestIsKept H.rules pen }

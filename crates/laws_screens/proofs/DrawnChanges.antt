@@ -1,66 +1,73 @@
 -- What a screen draws of texts and attributes, and that its cursor is where they are measured to end.
-use Rattle.std.proofs.Common.{◌≡◌, ℕ, ◌+◌, ◌<◌, ◌≤◌, pos, ◌+ℤ◌, Bool, true, false, ◌&&◌, cond, eqb, leb, List, [], ◌∷◌, ◌++◌, map, refl, sym, ap, ◌∙◌, arith, inl, inr, if◌then◌else◌}
-use Rattle.std.specs.Prelude.{chars}
-use Rattle.std.specs.List.{list_any}
-use Rattle.std.proofs.lemmas.Bool.{cases_eq, eq-eqb, ne_eqb, eqb-true, le-leb, lt-leb, or_parts, and_parts}
+use Rattle.std.proofs.Common.{◌≡◌, ℕ, zero, suc, ◌+◌, pos, ◌+ℤ◌, Bool, true, false, cond, leb, List, [], ◌∷◌, ◌++◌, map, length, refl, sym, ap, ◌∙◌, arith, if◌then◌else◌}
+use Rattle.std.specs.List.{list_all, flat_map}
+use Rattle.std.proofs.lemmas.Bool.{and_parts, and_from, false≢true}
 use Rattle.std.proofs.lemmas.Int.{ints}
-use Rattle.std.proofs.lemmas.List.{append_assoc, map-append}
+use Rattle.std.proofs.lemmas.List.{append_assoc, map-append, length-replicate}
+use Rattle.std.proofs.lemmas.List.Folds.{list_all-append}
+use Rattle.unicode_segmentation.specs.Grapheme.{graphemes}
 use Rattle.laws_screens.specs.Strokes.{PictureOf, Stroke, put, step, steps}
 use Rattle.laws_screens.specs.Strokes.Stroke.{Put, Return, Feed}
-use Rattle.laws_screens.specs.Sheets.{typed, broken}
+use Rattle.laws_screens.specs.Sheets.{is_narrow, typed, broken}
 use Rattle.tw_surface.specs.declared.measure.Piece.{Piece}
-use Rattle.tw_surface.specs.declared.measure.Piece.TheVariants.{Cr, Lf, CrLf, Wide}
+use Rattle.tw_surface.specs.declared.measure.Piece.TheVariants as piece
 use Rattle.tw_surface.specs.ChangeView.{Batch}
 use Rattle.tw_surface.specs.ChangeView.{Attribute, AllAttributes, Text, ClearScreen, ClearToEndOfScreen, CursorPosition}
-use Rattle.tw_surface.specs.Characters.{cr, lf}
-use Rattle.tw_surface.specs.Lines.{before_lines, lines_of}
-use Rattle.tw_surface.specs.Places.{Place, pieces, plain_piece, next_place, end_of_pieces, place_after_all}
-use Rattle.tw_surface.specs.Scenes.{typed_text}
-use Rattle.tw_surface.specs.Simple.{is_break, parted_pieces, spelled_all, IsCounted, AreSimple, AreCounted}
-use Rattle.laws_screens.specs.Pens.{Pen, Letter, kept_after, kept_after_all, char_stroke, change_strokes, strokes_of, letter_cell, letters_of, before_letters, lines_of_letters}
+use Rattle.tw_surface.specs.Characters.{is_plain}
+use Rattle.tw_surface.specs.Places.{Place, pieces, plain_piece, cluster_piece, next_place, end_of_pieces, place_after_all}
+use Rattle.tw_surface.specs.Scenes.{is_text}
+use Rattle.laws_screens.specs.Glyphs.{Glyph, piece_of, glyphs_of_piece, glyphs, typed_glyphs, is_pair, before_by, lines_by, fits_in, types_fitting}
+use Rattle.laws_screens.specs.Glyphs.Glyph.{Cr, Lf, Cluster}
+use Rattle.laws_screens.specs.Pens.{Pen, Letter, cluster_cells, cells_under, glyph_stroke, kept_after, kept_after_all, change_strokes, strokes_of, letters_under, letters_of, lines_of_letters, letter_cells}
 
 -- ---- the measure
 
 -- a pair of CR and LF leads where both lead
-parted-end : (w : ℕ) (ps : List Piece) (p : Place) → end_of_pieces w (parted_pieces ps) p ≡ end_of_pieces w ps p
-parted-end w [] p = refl
-parted-end w (CrLf ∷ more) p = parted-end w more (next_place w CrLf p)
-parted-end w (Cr ∷ more) p = parted-end w more (next_place w Cr p)
-parted-end w (Lf ∷ more) p = parted-end w more (next_place w Lf p)
-parted-end w (Wide v ∷ more) p = parted-end w more (next_place w (Wide v) p)
+piece-end : (w : ℕ) (cluster : List ℕ) (q : Piece) (rest : List Glyph) (p : Place)
+    → end_of_pieces w (map piece_of (glyphs_of_piece cluster q ++ rest)) p ≡ end_of_pieces w (map piece_of rest) (next_place w q p)
+piece-end w cluster piece.Cr rest p = refl
+piece-end w cluster piece.Lf rest p = refl
+piece-end w cluster piece.CrLf rest p = refl
+piece-end w cluster (piece.Wide v) rest p = refl
 
-pub counted-end : (w : ℕ) (text : List ℕ) (p : Place) → IsCounted text → end_of_pieces w (pieces text) p ≡ end_of_pieces w (map plain_piece (chars text)) p
-counted-end w text p h = sym (parted-end w (pieces text) p) ∙ ap (λ ps. end_of_pieces w ps p) h
+pieces-end : {X : Type 0} (w : ℕ) (cluster : X → List ℕ) (q : X → Piece) (xs : List X) (p : Place)
+    → end_of_pieces w (map piece_of (flat_map (λ x. glyphs_of_piece (cluster x) (q x)) xs)) p ≡ end_of_pieces w (map q xs) p
+pieces-end w cluster q [] p = refl
+pieces-end w cluster q (x ∷ xs) p =
+    piece-end w (cluster x) (q x) (flat_map (λ x. glyphs_of_piece (cluster x) (q x)) xs) p ∙ pieces-end w cluster q xs (next_place w (q x) p)
 
-wide-parted : (text : List ℕ) → parted_pieces (map (λ ch. Wide 1) text) ≡ map (λ ch. Wide 1) text
-wide-parted [] = refl
-wide-parted (ch ∷ text) = ap (λ l. Wide 1 ∷ l) (wide-parted text)
+-- the glyphs of a text lead where its pieces do
+pub glyphs-end : (w : ℕ) (text : List ℕ) (p : Place) → end_of_pieces w (map piece_of (glyphs text)) p ≡ end_of_pieces w (pieces text) p
+unfolding glyphs pieces
+glyphs-end w text p = by_kind (list_all is_plain text)
+  where
+    by_kind : (k : Bool) → end_of_pieces w (map piece_of (if k then flat_map (λ ch. glyphs_of_piece (ch ∷ []) (plain_piece ch)) text
+        else flat_map (λ cluster. glyphs_of_piece cluster (cluster_piece cluster)) (graphemes true text))) p
+        ≡ end_of_pieces w (if k then map plain_piece text else map cluster_piece (graphemes true text)) p
+    by_kind true = pieces-end w (λ ch. ch ∷ []) plain_piece text p
+    by_kind false = pieces-end w (λ cluster. cluster) cluster_piece (graphemes true text) p
 
-pub wide-plain : (text : List ℕ) → list_any is_break text ≡ false → map plain_piece text ≡ map (λ ch. Wide 1) text
-wide-plain [] h = refl
-wide-plain (ch ∷ text) h =
-    let parts = or_parts (is_break ch) (list_any is_break text) h in
-    let here = or_parts (eqb ch cr) (eqb ch lf) parts.0 in
-    rw (here.0, here.1) (ap (λ l. Wide 1 ∷ l) (wide-plain text parts.1))
+-- ---- texts that fit
 
-pub simple-counted : (changes : Batch) → AreSimple changes → AreCounted changes
-simple-counted [] a = tt
-simple-counted (Text text ∷ changes) a =
-    (ap parted_pieces a.0.measured ∙ wide-parted (chars text) ∙ sym (wide-plain (chars text) a.0.no_breaks), simple-counted changes a.1)
-simple-counted (Attribute x ∷ changes) a = simple-counted changes a
-simple-counted (AllAttributes x ∷ changes) a = simple-counted changes a
-simple-counted (ClearScreen c ∷ changes) a = elim a [ ]
-simple-counted (ClearToEndOfScreen c ∷ changes) a = elim a [ ]
-simple-counted (CursorPosition x y ∷ changes) a = elim a [ ]
+pub measured-text : (w : ℕ) (changes : Batch) → list_all (types_fitting w) changes ≡ true → list_all is_text changes ≡ true
+measured-text w [] h = refl
+measured-text w (Text text ∷ changes) h = measured-text w changes (and_parts _ _ h).1
+measured-text w (Attribute x ∷ changes) h = measured-text w changes h
+measured-text w (AllAttributes x ∷ changes) h = measured-text w changes h
+measured-text w (ClearScreen c ∷ changes) h = absurd (false≢true h)
+measured-text w (ClearToEndOfScreen c ∷ changes) h = absurd (false≢true h)
+measured-text w (CursorPosition x y ∷ changes) h = absurd (false≢true h)
 
-pub counted-append : (a b : Batch) → AreCounted a → AreCounted b → AreCounted (a ++ b)
-counted-append [] b h k = k
-counted-append (Text t ∷ a) b h k = (h.0, counted-append a b h.1 k)
-counted-append (Attribute x ∷ a) b h k = counted-append a b h k
-counted-append (AllAttributes x ∷ a) b h k = counted-append a b h k
-counted-append (ClearScreen c ∷ a) b h k = elim h [ ]
-counted-append (ClearToEndOfScreen c ∷ a) b h k = elim h [ ]
-counted-append (CursorPosition x y ∷ a) b h k = elim h [ ]
+pub measured-glyphs : (w : ℕ) (changes : Batch) → list_all (types_fitting w) changes ≡ true → list_all (fits_in w) (typed_glyphs changes) ≡ true
+measured-glyphs w [] h = refl
+measured-glyphs w (Text text ∷ changes) h =
+    let both = and_parts (list_all (fits_in w) (glyphs text)) (list_all (types_fitting w) changes) h in
+    list_all-append (fits_in w) (glyphs text) (typed_glyphs changes) ∙ and_from _ _ both.0 (measured-glyphs w changes both.1)
+measured-glyphs w (Attribute x ∷ changes) h = measured-glyphs w changes h
+measured-glyphs w (AllAttributes x ∷ changes) h = measured-glyphs w changes h
+measured-glyphs w (ClearScreen c ∷ changes) h = absurd (false≢true h)
+measured-glyphs w (ClearToEndOfScreen c ∷ changes) h = absurd (false≢true h)
+measured-glyphs w (CursorPosition x y ∷ changes) h = absurd (false≢true h)
 
 module _ {C : Type 0} where
   -- ---- the screen's cursor and the measured place, for a screen entered at row start
@@ -68,83 +75,77 @@ module _ {C : Type 0} where
   pub record Tracks (w start : ℕ) (at : Place) (s : PictureOf C) : Type 0 where
     pub x : s.col ≡ at.x
     pub y : pos s.row ≡ pos start +ℤ at.y
-    pub within : s.col ≤ w
 
-  tracks-put : (w start : ℕ) (x : C) (at : Place) (s : PictureOf C) → 0 < w → Tracks w start at s
-      → Tracks w start (cond (leb (at.x + 1) w) record { x = at.x + 1; y = at.y } record { x = 1; y = at.y +ℤ pos 1 }) (put w x s)
-  tracks-put w start x at s h t =
-      elim (cases_eq s.col w) [
-        | inl e ↦ rw (eq-eqb _ _ e, lt-leb (at.x + 1) w (omega (arith, t.x, e))) (record {
-          x = refl;
-          y = omega (arith, ints, t.y);
-          within = omega arith;
-        })
-        | inr n ↦ rw (ne_eqb _ _ n, le-leb (at.x + 1) w (omega (arith, t.x, n, t.within))) (record {
-          x = omega (arith, t.x);
-          y = t.y;
-          within = omega (arith, n, t.within);
-        })
-      ]
+  tracks-put : (w start v : ℕ) (cells : List C) (at : Place) (s : PictureOf C) → length cells ≡ v → Tracks w start at s
+      → Tracks w start (cond (leb (at.x + v) w) record { x = at.x + v; y = at.y } record { x = v; y = at.y +ℤ pos 1 }) (put w cells s)
+  tracks-put w start v cells at s e t = go (leb (at.x + v) w) refl
+    where
+      same : leb (s.col + length cells) w ≡ leb (at.x + v) w
+      same = ap (λ c. leb (c + length cells) w) t.x ∙ ap (λ n. leb (at.x + n) w) e
+
+      go : (k : Bool) → leb (at.x + v) w ≡ k
+          → Tracks w start (cond (leb (at.x + v) w) record { x = at.x + v; y = at.y } record { x = v; y = at.y +ℤ pos 1 }) (put w cells s)
+      go true k = rw (same, k) (record { x = omega (arith, t.x, e); y = t.y })
+      go false k = rw (same, k) (record { x = e; y = omega (arith, ints, t.y) })
 
   pub strokes-after : (w : ℕ) (x y : List (Stroke C)) (s : PictureOf C) → steps w (x ++ y) s ≡ steps w y (steps w x s)
   strokes-after w [] y s = refl
   strokes-after w (stroke ∷ x) y s = strokes-after w x y (step w stroke s)
 
 module _ {A : Type 0} where
-  -- the character of a letter
-  abbrev pub letter_char : Letter A → ℕ
-  letter_char letter = letter.ch
+  -- the glyph of a letter
+  abbrev pub letter_glyph : Letter A → Glyph
+  letter_glyph letter = letter.glyph
 
-  pub text-chars : (a : A) (text : List ℕ) → map letter_char (map (λ ch. record { kept = a; ch = ch }) text) ≡ text
-  text-chars a [] = refl
-  text-chars a (ch ∷ text) = ap (λ l. ch ∷ l) (text-chars a text)
+  pub text-glyphs : (a : A) (text : List Glyph) → map letter_glyph (letters_under a text) ≡ text
+  text-glyphs a [] = refl
+  text-glyphs a (glyph ∷ text) = ap (λ l. glyph ∷ l) (text-glyphs a text)
 
   -- ---- lines of letters
 
-  before-chars : (x : Letter A) (ls : List (List (Letter A))) → map (map letter_char) (before_letters x ls) ≡ before_lines x.ch (map (map letter_char) ls)
-  before-chars x [] = refl
-  before-chars x ([] ∷ more) = refl
-  before-chars x ((y ∷ line) ∷ more) = go (eqb x.ch cr && eqb y.ch lf)
+  before-glyphs : (x : Letter A) (ls : List (List (Letter A))) → map (map letter_glyph) (before_by letter_glyph x ls) ≡ before_by (λ glyph. glyph) x.glyph (map (map letter_glyph) ls)
+  before-glyphs x [] = refl
+  before-glyphs x ([] ∷ more) = refl
+  before-glyphs x ((y ∷ line) ∷ more) = go (is_pair x.glyph y.glyph)
     where
-      go : (k : Bool) → map (map letter_char) (if k then [] ∷ line ∷ more else (x ∷ y ∷ line) ∷ more)
-          ≡ (if k then [] ∷ map letter_char line ∷ map (map letter_char) more else (x.ch ∷ y.ch ∷ map letter_char line) ∷ map (map letter_char) more)
+      go : (k : Bool) → map (map letter_glyph) (if k then [] ∷ line ∷ more else (x ∷ y ∷ line) ∷ more)
+          ≡ (if k then [] ∷ map letter_glyph line ∷ map (map letter_glyph) more else (x.glyph ∷ y.glyph ∷ map letter_glyph line) ∷ map (map letter_glyph) more)
       go true = refl
       go false = refl
 
-  pub lines-chars : (letters : List (Letter A)) → map (map letter_char) (lines_of_letters letters) ≡ lines_of (map letter_char letters)
-  lines-chars [] = refl
-  lines-chars (x ∷ letters) = before-chars x (lines_of_letters letters) ∙ ap (before_lines x.ch) (lines-chars letters)
+  pub lines-glyphs : (letters : List (Letter A)) → map (map letter_glyph) (lines_of_letters letters) ≡ lines_by (λ glyph. glyph) (map letter_glyph letters)
+  lines-glyphs [] = refl
+  lines-glyphs (x ∷ letters) = before-glyphs x (lines_of_letters letters) ∙ ap (before_by (λ glyph. glyph) x.glyph) (lines-glyphs letters)
 
 module _ {A C : Type 0} where
-  tracks-char : (pen : Pen A C) (a : A) (w start ch : ℕ) (at : Place) (s : PictureOf C) → 0 < w → Tracks w start at s
-      → Tracks w start (next_place w (plain_piece ch) at) (step w (char_stroke pen a ch) s)
-  tracks-char pen a w start ch at s h t =
-      elim (cases_eq ch 13) [
-        | inl e ↦ rw (eq-eqb _ _ e) (record { x = refl; y = t.y; within = omega arith })
-        | inr n ↦ elim (cases_eq ch 10) [
-          | inl e ↦ rw (ne_eqb _ _ n, eq-eqb _ _ e) (record { x = t.x; y = omega (arith, ints, t.y); within = t.within })
-          | inr m ↦ rw (ne_eqb _ _ n, ne_eqb _ _ m) (tracks-put w start (pen.ink a ch) at s h t)
-        ]
-      ]
+  pub cells-length : (pen : Pen A C) (a : A) (cluster : List ℕ) (v : ℕ) → length (cluster_cells pen a cluster v) ≡ v
+  cells-length pen a cluster zero = refl
+  cells-length pen a cluster (suc v) = omega (arith, length-replicate v (pen.rest a))
 
-  tracks-chars : (pen : Pen A C) (a : A) (w start : ℕ) (t : List ℕ) (at : Place) (s : PictureOf C) → 0 < w → Tracks w start at s
-      → Tracks w start (end_of_pieces w (map plain_piece t) at) (steps w (map (char_stroke pen a) t) s)
-  tracks-chars pen a w start [] at s h k = k
-  tracks-chars pen a w start (ch ∷ t) at s h k =
-      tracks-chars pen a w start t (next_place w (plain_piece ch) at) (step w (char_stroke pen a ch) s) h (tracks-char pen a w start ch at s h k)
+  pub tracks-glyph : (pen : Pen A C) (a : A) (w start : ℕ) (glyph : Glyph) (at : Place) (s : PictureOf C) → Tracks w start at s
+      → Tracks w start (next_place w (piece_of glyph) at) (step w (glyph_stroke pen a glyph) s)
+  tracks-glyph pen a w start Cr at s t = record { x = refl; y = t.y }
+  tracks-glyph pen a w start Lf at s t = record { x = t.x; y = omega (arith, ints, t.y) }
+  tracks-glyph pen a w start (Cluster cluster v) at s t = tracks-put w start v (cluster_cells pen a cluster v) at s (cells-length pen a cluster v) t
 
-  pub tracks-changes : (pen : Pen A C) (a : A) (w start : ℕ) (changes : Batch) (at : Place) (s : PictureOf C) → 0 < w → AreCounted changes → Tracks w start at s
-      → Tracks w start (place_after_all w changes at) (steps w (strokes_of pen a (spelled_all changes)) s)
-  tracks-changes pen a w start [] at s h k t = t
-  tracks-changes pen a w start (Attribute x ∷ changes) at s h k t = tracks-changes pen (pen.attribute x a) w start changes at s h k t
-  tracks-changes pen a w start (AllAttributes x ∷ changes) at s h k t = tracks-changes pen (pen.attributes x) w start changes at s h k t
-  tracks-changes pen a w start (Text text ∷ changes) at s h k t =
-      rw (strokes-after w (map (char_stroke pen a) (chars text)) (strokes_of pen a (spelled_all changes)) s)
-      (tracks-changes pen a w start changes (end_of_pieces w (pieces text) at) (steps w (map (char_stroke pen a) (chars text)) s) h k.1
-      (rw (counted-end w text at k.0) (tracks-chars pen a w start (chars text) at s h t)))
-  tracks-changes pen a w start (ClearScreen c ∷ changes) at s h k t = elim k [ ]
-  tracks-changes pen a w start (ClearToEndOfScreen c ∷ changes) at s h k t = elim k [ ]
-  tracks-changes pen a w start (CursorPosition x y ∷ changes) at s h k t = elim k [ ]
+  tracks-glyphs : (pen : Pen A C) (a : A) (w start : ℕ) (t : List Glyph) (at : Place) (s : PictureOf C) → Tracks w start at s
+      → Tracks w start (end_of_pieces w (map piece_of t) at) (steps w (map (glyph_stroke pen a) t) s)
+  tracks-glyphs pen a w start [] at s k = k
+  tracks-glyphs pen a w start (glyph ∷ t) at s k =
+      tracks-glyphs pen a w start t (next_place w (piece_of glyph) at) (step w (glyph_stroke pen a glyph) s) (tracks-glyph pen a w start glyph at s k)
+
+  pub tracks-changes : (pen : Pen A C) (a : A) (w start : ℕ) (changes : Batch) (at : Place) (s : PictureOf C) → list_all is_text changes ≡ true → Tracks w start at s
+      → Tracks w start (place_after_all w changes at) (steps w (strokes_of pen a changes) s)
+  tracks-changes pen a w start [] at s k t = t
+  tracks-changes pen a w start (Attribute x ∷ changes) at s k t = tracks-changes pen (pen.attribute x a) w start changes at s k t
+  tracks-changes pen a w start (AllAttributes x ∷ changes) at s k t = tracks-changes pen (pen.attributes x) w start changes at s k t
+  tracks-changes pen a w start (Text text ∷ changes) at s k t =
+      rw (strokes-after w (map (glyph_stroke pen a) (glyphs text)) (strokes_of pen a changes) s)
+      (tracks-changes pen a w start changes (end_of_pieces w (pieces text) at) (steps w (map (glyph_stroke pen a) (glyphs text)) s) k
+      (rw (sym (glyphs-end w text at)) (tracks-glyphs pen a w start (glyphs text) at s t)))
+  tracks-changes pen a w start (ClearScreen c ∷ changes) at s k t = absurd (false≢true k)
+  tracks-changes pen a w start (ClearToEndOfScreen c ∷ changes) at s k t = absurd (false≢true k)
+  tracks-changes pen a w start (CursorPosition x y ∷ changes) at s k t = absurd (false≢true k)
 
   -- ---- what is kept
 
@@ -162,47 +163,55 @@ module _ {A C : Type 0} where
 
   -- the stroke of a letter
   abbrev pub letter_stroke : Pen A C → Letter A → Stroke C
-  letter_stroke pen letter = char_stroke pen letter.kept letter.ch
+  letter_stroke pen letter = glyph_stroke pen letter.kept letter.glyph
 
-  pub text-letters : (pen : Pen A C) (a : A) (text : List ℕ) → map (char_stroke pen a) text ≡ map (letter_stroke pen) (map (λ ch. record { kept = a; ch = ch }) text)
+  pub text-letters : (pen : Pen A C) (a : A) (text : List Glyph) → map (glyph_stroke pen a) text ≡ map (letter_stroke pen) (letters_under a text)
   text-letters pen a [] = refl
-  text-letters pen a (ch ∷ text) = ap (λ l. char_stroke pen a ch ∷ l) (text-letters pen a text)
+  text-letters pen a (glyph ∷ text) = ap (λ l. glyph_stroke pen a glyph ∷ l) (text-letters pen a text)
 
   -- texts and attributes draw the letters that they type
-  pub strokes-letters : (pen : Pen A C) (a : A) (changes : Batch) → AreCounted changes
-      → strokes_of pen a (spelled_all changes) ≡ map (letter_stroke pen) (letters_of pen a (spelled_all changes))
+  pub strokes-letters : (pen : Pen A C) (a : A) (changes : Batch) → list_all is_text changes ≡ true
+      → strokes_of pen a changes ≡ map (letter_stroke pen) (letters_of pen a changes)
   strokes-letters pen a [] k = refl
   strokes-letters pen a (Attribute x ∷ changes) k = strokes-letters pen (pen.attribute x a) changes k
   strokes-letters pen a (AllAttributes x ∷ changes) k = strokes-letters pen (pen.attributes x) changes k
   strokes-letters pen a (Text text ∷ changes) k =
-      ap (λ l. l ++ strokes_of pen a (spelled_all changes)) (text-letters pen a (chars text))
-      ∙ ap (λ l. map (letter_stroke pen) (map (λ ch. record { kept = a; ch = ch }) (chars text)) ++ l) (strokes-letters pen a changes k.1)
-      ∙ sym (map-append (letter_stroke pen) (map (λ ch. record { kept = a; ch = ch }) (chars text)) (letters_of pen a (spelled_all changes)))
-  strokes-letters pen a (ClearScreen c ∷ changes) k = elim k [ ]
-  strokes-letters pen a (ClearToEndOfScreen c ∷ changes) k = elim k [ ]
-  strokes-letters pen a (CursorPosition x y ∷ changes) k = elim k [ ]
+      ap (λ l. l ++ strokes_of pen a changes) (text-letters pen a (glyphs text))
+      ∙ ap (λ l. map (letter_stroke pen) (letters_under a (glyphs text)) ++ l) (strokes-letters pen a changes k)
+      ∙ sym (map-append (letter_stroke pen) (letters_under a (glyphs text)) (letters_of pen a changes))
+  strokes-letters pen a (ClearScreen c ∷ changes) k = absurd (false≢true k)
+  strokes-letters pen a (ClearToEndOfScreen c ∷ changes) k = absurd (false≢true k)
+  strokes-letters pen a (CursorPosition x y ∷ changes) k = absurd (false≢true k)
 
-  -- the letters that changes type are those of their text
-  pub chars-typed : (pen : Pen A C) (a : A) (changes : Batch) → map letter_char (letters_of pen a changes) ≡ typed_text changes
-  chars-typed pen a [] = refl
-  chars-typed pen a (Attribute x ∷ changes) = chars-typed pen (pen.attribute x a) changes
-  chars-typed pen a (AllAttributes x ∷ changes) = chars-typed pen (pen.attributes x) changes
-  chars-typed pen a (Text text ∷ changes) =
-      map-append letter_char (map (λ ch. record { kept = a; ch = ch }) text) (letters_of pen a changes)
-      ∙ ap (λ l. l ++ map letter_char (letters_of pen a changes)) (text-chars a text)
-      ∙ ap (λ l. text ++ l) (chars-typed pen a changes)
-  chars-typed pen a (ClearScreen c ∷ changes) = chars-typed pen a changes
-  chars-typed pen a (ClearToEndOfScreen c ∷ changes) = chars-typed pen a changes
-  chars-typed pen a (CursorPosition x y ∷ changes) = chars-typed pen a changes
+  -- the letters that changes type are those of their glyphs
+  pub glyphs-typed : (pen : Pen A C) (a : A) (changes : Batch) → map letter_glyph (letters_of pen a changes) ≡ typed_glyphs changes
+  glyphs-typed pen a [] = refl
+  glyphs-typed pen a (Attribute x ∷ changes) = glyphs-typed pen (pen.attribute x a) changes
+  glyphs-typed pen a (AllAttributes x ∷ changes) = glyphs-typed pen (pen.attributes x) changes
+  glyphs-typed pen a (Text text ∷ changes) =
+      map-append letter_glyph (letters_under a (glyphs text)) (letters_of pen a changes)
+      ∙ ap (λ l. l ++ map letter_glyph (letters_of pen a changes)) (text-glyphs a (glyphs text))
+      ∙ ap (λ l. glyphs text ++ l) (glyphs-typed pen a changes)
+  glyphs-typed pen a (ClearScreen c ∷ changes) = glyphs-typed pen a changes
+  glyphs-typed pen a (ClearToEndOfScreen c ∷ changes) = glyphs-typed pen a changes
+  glyphs-typed pen a (CursorPosition x y ∷ changes) = glyphs-typed pen a changes
 
-  -- letters with no CR or LF are typed
-  pub letters-typed : (pen : Pen A C) (letters : List (Letter A)) → list_any is_break (map letter_char letters) ≡ false
-      → map (letter_stroke pen) letters ≡ typed (map (letter_cell pen) letters)
-  letters-typed pen [] h = refl
-  letters-typed pen (x ∷ letters) h =
-      let parts = or_parts (is_break x.ch) (list_any is_break (map letter_char letters)) h in
-      let here = or_parts (eqb x.ch cr) (eqb x.ch lf) parts.0 in
-      rw (here.0, here.1) (ap (λ l. Put (pen.ink x.kept x.ch) ∷ l) (letters-typed pen letters parts.1))
+  -- a cluster that fits in a row is put, a cell for each of its columns
+  letter-put : (pen : Pen A C) (w : ℕ) (a : A) (glyph : Glyph) → fits_in w glyph ≡ true
+      → (glyph_stroke pen a glyph ≡ Put (cells_under pen a glyph)) × (is_narrow w (cells_under pen a glyph) ≡ true)
+  letter-put pen w a Cr h = absurd (false≢true h)
+  letter-put pen w a Lf h = absurd (false≢true h)
+  letter-put pen w a (Cluster cluster v) h = (refl, ap (λ n. leb n w) (cells-length pen a cluster v) ∙ h)
+
+  -- letters that fit in a row are typed
+  pub letters-typed : (pen : Pen A C) (w : ℕ) (letters : List (Letter A)) → list_all (fits_in w) (map letter_glyph letters) ≡ true
+      → (map (letter_stroke pen) letters ≡ typed (map (letter_cells pen) letters)) × (list_all (is_narrow w) (map (letter_cells pen) letters) ≡ true)
+  letters-typed pen w [] h = (refl, refl)
+  letters-typed pen w (x ∷ letters) h =
+      let both = and_parts (fits_in w x.glyph) (list_all (fits_in w) (map letter_glyph letters)) h in
+      let here = letter-put pen w x.kept x.glyph both.0 in
+      let more = letters-typed pen w letters both.1 in
+      (ap (λ s. s ∷ map (letter_stroke pen) letters) here.0 ∙ ap (λ l. Put (letter_cells pen x) ∷ l) more.0, and_from _ _ here.1 more.1)
 
   -- ---- lines
 
@@ -211,23 +220,28 @@ module _ {A C : Type 0} where
   letter_breaks pen [] = []
   letter_breaks pen (line ∷ more) = Return ∷ Feed ∷ (map (letter_stroke pen) line ++ letter_breaks pen more)
 
+  -- what a pair draws
+  pair-strokes : (pen : Pen A C) (a c : A) (x y : Glyph) → is_pair x y ≡ true → (glyph_stroke pen a x ≡ Return) × (glyph_stroke pen c y ≡ Feed)
+  pair-strokes pen a c Cr Cr h = absurd (false≢true h)
+  pair-strokes pen a c Cr Lf h = (refl, refl)
+  pair-strokes pen a c Cr (Cluster d v) h = absurd (false≢true h)
+  pair-strokes pen a c Lf y h = absurd (false≢true h)
+  pair-strokes pen a c (Cluster d v) y h = absurd (false≢true h)
+
   breaks-before : (pen : Pen A C) (x : Letter A) (ls : List (List (Letter A))) (t : List (Stroke C)) → letter_breaks pen ls ≡ Return ∷ Feed ∷ t
-      → letter_breaks pen (before_letters x ls) ≡ Return ∷ Feed ∷ letter_stroke pen x ∷ t
+      → letter_breaks pen (before_by letter_glyph x ls) ≡ Return ∷ Feed ∷ letter_stroke pen x ∷ t
   breaks-before pen x [] t e = absurd (cc (e))
   breaks-before pen x ([] ∷ more) t e = let d : letter_breaks pen more ≡ t = cc (e) in ap (λ l. Return ∷ Feed ∷ letter_stroke pen x ∷ l) d
-  breaks-before pen x ((y ∷ line) ∷ more) t e = go (eqb x.ch cr && eqb y.ch lf) refl
+  breaks-before pen x ((y ∷ line) ∷ more) t e = go (is_pair x.glyph y.glyph) refl
     where
       d : letter_stroke pen y ∷ (map (letter_stroke pen) line ++ letter_breaks pen more) ≡ t
       d = cc (e)
 
-      go : (k : Bool) → (eqb x.ch cr && eqb y.ch lf) ≡ k
+      go : (k : Bool) → is_pair x.glyph y.glyph ≡ k
           → letter_breaks pen (if k then [] ∷ line ∷ more else (x ∷ y ∷ line) ∷ more) ≡ Return ∷ Feed ∷ letter_stroke pen x ∷ t
       go true k =
-          let both = and_parts (eqb x.ch cr) (eqb y.ch lf) k in
-          let n : eqb y.ch cr ≡ false = ne_eqb y.ch 13 (λ z. let f : y.ch ≡ 10 = eqb-true y.ch 10 both.1 in omega arith) in
-          let first : letter_stroke pen x ≡ Return = rw both.0 refl in
-          let second : letter_stroke pen y ≡ Feed = rw (n, both.1) refl in
-          ap (λ l. Return ∷ Feed ∷ l) (sym (ap (λ z. z ∷ t) first ∙ ap (λ l. Return ∷ l) (sym d ∙ ap (λ z. z ∷ (map (letter_stroke pen) line ++ letter_breaks pen more)) second)))
+          let both = pair-strokes pen x.kept y.kept x.glyph y.glyph k in
+          ap (λ l. Return ∷ Feed ∷ l) (sym (ap (λ z. z ∷ t) both.0 ∙ ap (λ l. Return ∷ l) (sym d ∙ ap (λ z. z ∷ (map (letter_stroke pen) line ++ letter_breaks pen more)) both.1)))
       go false k = ap (λ l. Return ∷ Feed ∷ letter_stroke pen x ∷ l) d
 
   -- CR LF and letters are their lines with CR LF before each
@@ -235,16 +249,21 @@ module _ {A C : Type 0} where
   breaks-lines pen [] = refl
   breaks-lines pen (x ∷ letters) = breaks-before pen x (lines_of_letters letters) (map (letter_stroke pen) letters) (breaks-lines pen letters)
 
-  breaks-broken : (pen : Pen A C) (lines : List (List (Letter A))) → list_any (list_any is_break) (map (map letter_char) lines) ≡ false
-      → letter_breaks pen lines ≡ broken (map (map (letter_cell pen)) lines)
-  breaks-broken pen [] h = refl
-  breaks-broken pen (line ∷ more) h =
-      let parts = or_parts (list_any is_break (map letter_char line)) (list_any (list_any is_break) (map (map letter_char) more)) h in
-      ap (λ l. Return ∷ Feed ∷ (l ++ letter_breaks pen more)) (letters-typed pen line parts.0)
-      ∙ ap (λ l. Return ∷ Feed ∷ (typed (map (letter_cell pen) line) ++ l)) (breaks-broken pen more parts.1)
+  breaks-broken : (pen : Pen A C) (w : ℕ) (lines : List (List (Letter A))) → list_all (list_all (fits_in w)) (map (map letter_glyph) lines) ≡ true
+      → (letter_breaks pen lines ≡ broken (map (map (letter_cells pen)) lines)) × (list_all (list_all (is_narrow w)) (map (map (letter_cells pen)) lines) ≡ true)
+  breaks-broken pen w [] h = (refl, refl)
+  breaks-broken pen w (line ∷ more) h =
+      let both = and_parts (list_all (fits_in w) (map letter_glyph line)) (list_all (list_all (fits_in w)) (map (map letter_glyph) more)) h in
+      let here = letters-typed pen w line both.0 in
+      let rest = breaks-broken pen w more both.1 in (
+        ap (λ l. Return ∷ Feed ∷ (l ++ letter_breaks pen more)) here.0 ∙ ap (λ l. Return ∷ Feed ∷ (typed (map (letter_cells pen) line) ++ l)) rest.0,
+        and_from _ _ here.1 rest.1,
+      )
 
-  -- CR LF and letters whose lines have no CR or LF are these lines, one under the other
-  pub letters-broken : (pen : Pen A C) (letters : List (Letter A)) → list_any (list_any is_break) (lines_of (map letter_char letters)) ≡ false
-      → Return ∷ Feed ∷ map (letter_stroke pen) letters ≡ broken (map (map (letter_cell pen)) (lines_of_letters letters))
-  letters-broken pen letters h =
-      sym (breaks-lines pen letters) ∙ breaks-broken pen (lines_of_letters letters) (ap (list_any (list_any is_break)) (lines-chars letters) ∙ h)
+  -- CR LF and letters whose lines fit are these lines, one under the other
+  pub letters-broken : (pen : Pen A C) (w : ℕ) (letters : List (Letter A)) → list_all (list_all (fits_in w)) (lines_by (λ glyph. glyph) (map letter_glyph letters)) ≡ true
+      → (Return ∷ Feed ∷ map (letter_stroke pen) letters ≡ broken (map (map (letter_cells pen)) (lines_of_letters letters)))
+      × (list_all (list_all (is_narrow w)) (map (map (letter_cells pen)) (lines_of_letters letters)) ≡ true)
+  letters-broken pen w letters h =
+      let all = breaks-broken pen w (lines_of_letters letters) (ap (list_all (list_all (fits_in w))) (lines-glyphs letters) ∙ h) in
+      (sym (breaks-lines pen letters) ∙ all.0, all.1)

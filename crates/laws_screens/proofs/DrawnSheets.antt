@@ -1,14 +1,14 @@
 -- A sheet, drawn from column 0 of row s on a screen without a bottom, leaves its fresh painting.
-use Rattle.std.proofs.Common.{◌≡◌, ℕ, zero, suc, ◌+◌, ◌-◌, ◌*◌, ◌/◌, ◌%◌, max, ◌<◌, ◌≤◌, List, [], ◌∷◌, length, refl, sym, ap, ◌∙◌, arith, ◌⊎◌, inl, inr, add-zero}
+use Rattle.std.proofs.Common.{◌≡◌, ℕ, zero, suc, ◌+◌, ◌-◌, ◌*◌, ◌/◌, ◌%◌, max, ◌<◌, ◌≤◌, true, List, [], ◌∷◌, map, length, refl, sym, ap, ◌∙◌, subst, arith, ◌⊎◌, inl, inr, add-zero}
 use Rattle.std.specs.Prelude.{slice_index_or}
-use Rattle.std.specs.List.{sum_by}
-use Rattle.std.proofs.lemmas.Bool.{cases_eq, cases_lt, ne_eqb, cond-true, cond-false, le-leb, lt-leb}
+use Rattle.std.specs.List.{list_all, sum_by}
+use Rattle.std.proofs.lemmas.Bool.{cases_eq, cases_lt, ne_eqb, cond-true, cond-false, and_parts, le-leb, lt-leb}
 use Rattle.std.proofs.lemmas.Nat.{mul-le, div-add-mod', mod_below, div-mul-add, mod-mul-add}
 use Rattle.std.proofs.Math.Nat.{zero-div, add-mul, one-mul, add-div_right, div-eq_of_lt, max-eq_right}
 use Rattle.std.proofs.lemmas.List.Sums.{sum_by-cons}
 use Rattle.laws_screens.specs.Strokes.{PictureOf, cleared_in, steps}
-use Rattle.laws_screens.specs.Sheets.{Sheet, rows_of_line, sheet_text_row, sheet_last_row, sheet_cursor_row, last_length, behind, IsSheetCell, IsInText, AreLinesShown, IsInLowerLines, IsFreshSheet, typed, broken, drawing}
-use Rattle.laws_screens.proofs.LineOfCells.{at_row, at_col, below_row, over, all_from, over-outside, over-inside, Stands, cleared-stands, typed-stands, typed-col, steps-append, line_of, line_of-at, line_of-stands}
+use Rattle.laws_screens.specs.Sheets.{Sheet, Writing, laid, laid_out, is_narrow, rows_of_line, sheet_text_row, sheet_last_row, sheet_cursor_row, last_length, behind, IsSheetCell, IsInText, AreLinesShown, IsInLowerLines, IsFreshSheet, typed, broken, drawing}
+use Rattle.laws_screens.proofs.LineOfCells.{at_row, at_col, below_row, over, all_from, over-outside, over-inside, Stands, cleared-stands, typed-stands, typed-col, typed-none, steps-append, line_of, line_of-at, line_of-stands}
 
 -- ---- division
 
@@ -77,16 +77,29 @@ module _ {C : Type 0} where
     pub col : t.col ≡ behind w n
     pub cells : (r c : ℕ) → c < w → t.cell r c ≡ f (r * w + c)
 
-  pub typed-ends : (w r : ℕ) (line : List C) (f : ℕ → C) (t : PictureOf C) → 0 < w → t.row ≡ r → t.col ≡ 0
-      → ((i c : ℕ) → c < w → t.cell i c ≡ f (i * w + c))
-      → Drawn w (r + (length line - 1) / w) (length line) (over (r * w) line f) (steps w (typed line) t)
-  typed-ends w r [] f t h row col cells = record { row = omega (arith, row, zero-div w); col = col; cells = cells }
-  typed-ends w r (x ∷ line) f t h row col cells =
+  pub typed-ends : (b : C) (w r : ℕ) (line : List (List C)) (f : ℕ → C) (t : PictureOf C) → 0 < w → list_all (is_narrow w) line ≡ true → t.row ≡ r → t.col ≡ 0
+      → ((i c : ℕ) → c < w → t.cell i c ≡ f (i * w + c)) → ((i : ℕ) → r * w ≤ i → f i ≡ b)
+      → let cells = laid b w 0 line in
+      Drawn w (r + (length cells - 1) / w) (length cells) (over (r * w) cells f) (steps w (typed line) t)
+  typed-ends b w r line f t h narrow row col cells blank =
       let stands : Stands w t (r * w) f = record { at = cells; place = rw (row, col) (add-zero (r * w)); within = omega (arith, col) } in
-      let all = typed-stands w (x ∷ line) t (r * w) f h stands in
-      let some : 0 < length (x ∷ line) = omega arith in
-      let e = ends w r (length (x ∷ line)) _ _ h all.place all.within some (typed-col w (x ∷ line) t (inr some)) in
-      record { row = e.0; col = e.1 ∙ sym (behind-some w (length (x ∷ line)) some); cells = all.at }
+      let all : Stands w (steps w (typed line) t) (r * w + length (laid b w 0 line)) (over (r * w) (laid b w 0 line) f) =
+      subst (λ x. Stands w (steps w (typed line) t) (r * w + length (laid b w x line)) (over (r * w) (laid b w x line) f)) col
+      (typed-stands w b line t (r * w) f h narrow blank stands) in
+      elim (cases_lt 0 (length (laid b w 0 line))) [
+        | inl some ↦
+            let past : 0 < (steps w (typed line) t).col = typed-col w b line t narrow (omega (arith, col)) (inr (rw col some)) in
+            let e = ends w r (length (laid b w 0 line)) _ _ h all.place all.within some past in
+            record { row = e.0; col = e.1 ∙ sym (behind-some w (length (laid b w 0 line)) some); cells = all.at }
+        | inr none ↦
+            let empty : length (laid b w 0 line) ≡ 0 = omega (arith, none) in
+            let still = typed-none w b line t (omega (arith, col)) (rw col empty) in
+            record {
+              row = still.0 ∙ row ∙ rw empty (omega (arith, zero-div w));
+              col = still.1 ∙ col ∙ rw empty refl;
+              cells = all.at;
+            }
+      ]
 
   -- lines one after the other, from row r on
   abbrev pub over_lines : ℕ → ℕ → List (List C) → (ℕ → C) → ℕ → C
@@ -96,19 +109,35 @@ module _ {C : Type 0} where
   Drawn-same : (w last last' n : ℕ) (f f' : ℕ → C) (t t' : PictureOf C) → last ≡ last' → f ≡ f' → t ≡ t' → Drawn w last' n f' t' → Drawn w last n f t
   Drawn-same w last last' n f f' t t' a b c h = rw (a, b, c) h
 
-  broken-ends : (w last n : ℕ) (lines : List (List C)) (f : ℕ → C) (t : PictureOf C) → 2 ≤ w → Drawn w last n f t
-      → Drawn w (last + sum_by (rows_of_line w) lines) (last_length n lines) (over_lines w (last + 1) lines f) (steps w (broken lines) t)
-  broken-ends w last n [] f t two k = record { row = k.row ∙ sym (add-zero last); col = k.col; cells = k.cells }
-  broken-ends w last n (line ∷ more) f t two k =
+  -- a line ends before the row after its rows
+  fits : (w r : ℕ) (line : List C) → 2 ≤ w → r * w + length line ≤ (r + rows_of_line w line) * w
+  fits w r line two =
+      let e : rows_of_line w line ≡ 1 + (length line - 1) / w = rows-is w (length line) (omega arith) in
+      rw e (omega (arith, add-mul r (1 + (length line - 1) / w) w, add-mul 1 ((length line - 1) / w) w, one-mul w, div-add-mod' (length line - 1) w, mod_below (length line - 1) w (omega arith)))
+
+  broken-ends : (b : C) (w last n : ℕ) (lines : List (List (List C))) (f : ℕ → C) (t : PictureOf C) → 2 ≤ w → list_all (list_all (is_narrow w)) lines ≡ true
+      → ((i : ℕ) → (last + 1) * w ≤ i → f i ≡ b) → Drawn w last n f t
+      → let laid_lines = map (laid b w 0) lines in
+      Drawn w (last + sum_by (rows_of_line w) laid_lines) (last_length n laid_lines) (over_lines w (last + 1) laid_lines f) (steps w (broken lines) t)
+  broken-ends b w last n [] f t two narrow blank k = record { row = k.row ∙ sym (add-zero last); col = k.col; cells = k.cells }
+  broken-ends b w last n (line ∷ more) f t two narrow blank k =
+      let both = and_parts (list_all (is_narrow w) line) (list_all (list_all (is_narrow w)) more) narrow in
+      let cells : List C = laid b w 0 line in
+      let others : List (List C) = map (laid b w 0) more in
       let down : PictureOf C = record { cell = t.cell; row = t.row + 1; col = 0 } in
-      let one = typed-ends w (last + 1) line f down (omega arith) (ap (λ r. r + 1) k.row) refl k.cells in
-      let count : last + rows_of_line w line ≡ last + 1 + (length line - 1) / w = rw (rows-is w (length line) (omega arith)) (omega arith) in
-      let next : Drawn w (last + rows_of_line w line) (length line) (over ((last + 1) * w) line f) (steps w (typed line) down) =
+      let one = typed-ends b w (last + 1) line f down (omega arith) both.0 (ap (λ r. r + 1) k.row) refl k.cells blank in
+      let count : last + rows_of_line w cells ≡ last + 1 + (length cells - 1) / w = rw (rows-is w (length cells) (omega arith)) (omega arith) in
+      let next : Drawn w (last + rows_of_line w cells) (length cells) (over ((last + 1) * w) cells f) (steps w (typed line) down) =
       record { row = one.row ∙ sym count; col = one.col; cells = one.cells } in
-      let rest = broken-ends w (last + rows_of_line w line) (length line) more (over ((last + 1) * w) line f) (steps w (typed line) down) two next in
-      let e : last + 1 + rows_of_line w line ≡ last + rows_of_line w line + 1 = omega arith in
-      Drawn-same w _ _ (last_length (length line) more) _ _ _ _ (omega (arith, sum_by-cons (rows_of_line w) line more))
-      (ap (λ r. over_lines w r more (over ((last + 1) * w) line f)) e)
+      let e : last + 1 + rows_of_line w cells ≡ last + rows_of_line w cells + 1 = omega arith in
+      let behind_line : (i : ℕ) → (last + rows_of_line w cells + 1) * w ≤ i → over ((last + 1) * w) cells f i ≡ b =
+      λ i q.
+      let end : (last + 1) * w + length cells ≤ (last + rows_of_line w cells + 1) * w =
+      subst (λ r. (last + 1) * w + length cells ≤ r * w) e (fits w (last + 1) cells two) in
+      over-outside ((last + 1) * w) cells f i (inr (omega (arith, end, q))) ∙ blank i (omega (arith, end, q)) in
+      let rest = broken-ends b w (last + rows_of_line w cells) (length cells) more (over ((last + 1) * w) cells f) (steps w (typed line) down) two both.1 behind_line next in
+      Drawn-same w _ _ (last_length (length cells) others) _ _ _ _ (omega (arith, sum_by-cons (rows_of_line w) cells others))
+      (ap (λ r. over_lines w r others (over ((last + 1) * w) cells f)) e)
       (steps-append w (typed line) (broken more) down) rest
 
   -- ---- a sheet
@@ -123,27 +152,40 @@ module _ {C : Type 0} where
   abbrev pub all_cells : C → ℕ → ℕ → Sheet C → PictureOf C → ℕ → C
   all_cells b w s sheet before i = over_lines w (s + sheet_text_row w sheet + 1) sheet.lower (cells_of b w s sheet.text before) i
 
-  pub drawn : (b : C) (w s : ℕ) (sheet : Sheet C) (before : PictureOf C) → 2 ≤ w → before.row ≡ s → before.col ≡ 0
-      → (length sheet.text % w ≡ 0 → length sheet.text ≡ 0)
-      → Drawn w (s + sheet_last_row w sheet) (last_length (length sheet.text) sheet.lower) (all_cells b w s sheet before) (steps w (drawing b sheet) before)
-  drawn b w s sheet before two row col off_edge =
+  -- b from row s on is left behind it
+  behind_text : (b : C) (w s : ℕ) (text : List C) (before : PictureOf C) → 0 < w → (i : ℕ) → (s + length text / w + 1) * w ≤ i → cells_of b w s text before i ≡ b
+  behind_text b w s text before h i k =
+      over-outside (s * w) text (base b w s before) i (inr (omega (arith, fresh_row w s (length text) h, k)))
+      ∙ cond-true _ _ _ (le-leb (s * w) i (omega (arith, fresh_row w s (length text) h, k)))
+
+  drawn_out : (b : C) (w s : ℕ) (writing : Writing C) (at : ℕ) (before : PictureOf C) → 2 ≤ w → before.row ≡ s → before.col ≡ 0
+      → list_all (is_narrow w) writing.text ≡ true → list_all (list_all (is_narrow w)) writing.lower ≡ true
+      → let sheet = laid_out b w writing at in
+      (length sheet.text % w ≡ 0 → length sheet.text ≡ 0)
+      → Drawn w (s + sheet_last_row w sheet) (last_length (length sheet.text) sheet.lower) (all_cells b w s sheet before) (steps w (drawing b writing) before)
+  drawn_out b w s writing at before two row col narrow below off_edge =
+      let sheet : Sheet C = laid_out b w writing at in
       let clear : PictureOf C = record before { cell = cleared_in before.cell before.row before.col b } in
       let start : Stands w clear (s * w) (base b w s before) =
       cleared-stands w b before (s * w) (line_of w before) (omega (arith, col)) (line_of-stands w s before (omega arith) row col) in
-      let one = typed-ends w s sheet.text (base b w s before) clear (omega arith) row col start.at in
-      let text : Drawn w (s + sheet_text_row w sheet) (length sheet.text) (cells_of b w s sheet.text before) (steps w (typed sheet.text) clear) =
+      let one = typed-ends b w s writing.text (base b w s before) clear (omega arith) narrow row col start.at (λ i k. cond-true _ _ _ (le-leb (s * w) i k)) in
+      let text : Drawn w (s + sheet_text_row w sheet) (length sheet.text) (cells_of b w s sheet.text before) (steps w (typed writing.text) clear) =
       record { row = one.row ∙ ap (λ i. s + i) (same_row w (length sheet.text) (omega arith) off_edge); col = one.col; cells = one.cells } in
-      let all = broken-ends w (s + sheet_text_row w sheet) (length sheet.text) sheet.lower (cells_of b w s sheet.text before) (steps w (typed sheet.text) clear) two text in
+      let all = broken-ends b w (s + sheet_text_row w sheet) (length sheet.text) writing.lower (cells_of b w s sheet.text before) (steps w (typed writing.text) clear) two below
+      (behind_text b w s sheet.text before (omega arith)) text in
       Drawn-same w _ _ (last_length (length sheet.text) sheet.lower) _ _ _ _ (omega arith) refl
-      (steps-append w (typed sheet.text) (broken sheet.lower) clear) all
+      (steps-append w (typed writing.text) (broken writing.lower) clear) all
+
+  pub drawn : (b : C) (w s : ℕ) (writing : Writing C) (sheet : Sheet C) (before : PictureOf C) → 2 ≤ w → before.row ≡ s → before.col ≡ 0
+      → sheet ≡ laid_out b w writing sheet.at
+      → list_all (is_narrow w) writing.text ≡ true → list_all (list_all (is_narrow w)) writing.lower ≡ true
+      → (length sheet.text % w ≡ 0 → length sheet.text ≡ 0)
+      → Drawn w (s + sheet_last_row w sheet) (last_length (length sheet.text) sheet.lower) (all_cells b w s sheet before) (steps w (drawing b writing) before)
+  drawn b w s writing sheet before two row col is narrow below off_edge =
+      subst (λ x. (length x.text % w ≡ 0 → length x.text ≡ 0) → Drawn w (s + sheet_last_row w x) (last_length (length x.text) x.lower) (all_cells b w s x before) (steps w (drawing b writing) before))
+      (sym is) (drawn_out b w s writing sheet.at before two row col narrow below) off_edge
 
   -- ---- the fresh painting
-
-  -- a line ends before the row after its rows
-  fits : (w r : ℕ) (line : List C) → 2 ≤ w → r * w + length line ≤ (r + rows_of_line w line) * w
-  fits w r line two =
-      let e : rows_of_line w line ≡ 1 + (length line - 1) / w = rows-is w (length line) (omega arith) in
-      rw e (omega (arith, add-mul r (1 + (length line - 1) / w) w, add-mul 1 ((length line - 1) / w) w, one-mul w, div-add-mod' (length line - 1) w, mod_below (length line - 1) w (omega arith)))
 
   lines-before : (w r : ℕ) (lines : List (List C)) (f : ℕ → C) (i : ℕ) → 2 ≤ w → i < r * w → over_lines w r lines f i ≡ f i
   lines-before w r [] f i two h = refl

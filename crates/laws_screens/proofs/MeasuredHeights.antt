@@ -1,44 +1,20 @@
--- The height of a painting of counted texts is the row in which it ends.
+-- The height of a painting of texts is the row in which it ends.
 use Rattle.std.proofs.Common.{◌≡◌, ℕ, ◌+◌, ℤ, pos, ◌+ℤ◌, ◌-ℤ◌, ◌≤ℤ◌, nat_abs, Bool, true, false, cond, eqb, leb, List, [], ◌∷◌, ◌++◌, refl, sym, ap, subst, ◌∙◌, arith, ◌⊎◌, inl, inr}
-use Rattle.std.specs.Prelude.{chars}
+use Rattle.std.specs.List.{list_all}
+use Rattle.std.proofs.lemmas.Bool.{false≢true}
 use Rattle.std.proofs.lemmas.Int.{ints, clamps}
-use Rattle.std.proofs.lemmas.Str.{chars-IsAscii, chars-append, IsUtf8-from_ascii}
-use Rattle.std.proofs.lemmas.Str.Ascii.{IsAscii-cons, IsAscii-nil}
 use Rattle.tw_surface.specs.declared.measure.Piece.{Piece}
 use Rattle.tw_surface.specs.declared.measure.Piece.TheVariants.{Cr, Lf, CrLf, Wide}
 use Rattle.tw_surface.specs.declared.measure.Extent.{Extent}
 use Rattle.tw_surface.specs.ChangeView.{Batch}
 use Rattle.tw_surface.specs.ChangeView.{Attribute, AllAttributes, Text, ClearScreen, ClearToEndOfScreen, CursorPosition}
-use Rattle.tw_surface.specs.Characters.{cr, lf}
 use Rattle.tw_surface.specs.Defaults.{default_attributes}
 use Rattle.tw_surface.specs.Drawings.{height}
 use Rattle.tw_surface.specs.Extents.{place_of, reach, reach_all, extent_after_all, start_extent}
 use Rattle.tw_surface.specs.Paintings.{lower_changes, before_line, edge_space, shown_part}
 use Rattle.tw_surface.specs.Places.{Place, pieces, next_place, places_after, place_after_all, origin}
-use Rattle.tw_surface.specs.Scenes.{Scene}
-use Rattle.tw_surface.specs.Simple.{IsCounted, AreCounted}
+use Rattle.tw_surface.specs.Scenes.{Scene, is_text}
 use Rattle.tw_surface.proofs.DrawingLemmas.{extent_after_all-append, place_of-extent_after_all, height-extent}
-
--- ---- the space and the line end that a painting adds
-
-pub space_is : chars (32 ∷ []) ≡ 32 ∷ []
-space_is = chars-IsAscii (32 ∷ []) (IsAscii-cons 32 [] (omega arith) IsAscii-nil)
-
-pub crlf_is : chars (cr ∷ lf ∷ []) ≡ cr ∷ lf ∷ []
-crlf_is = chars-IsAscii (13 ∷ 10 ∷ []) (IsAscii-cons 13 (10 ∷ []) (omega arith) (IsAscii-cons 10 [] (omega arith) IsAscii-nil))
-
-pub crlf_before : (text : List ℕ) → chars (cr ∷ lf ∷ text) ≡ cr ∷ lf ∷ chars text
-crlf_before text =
-    chars-append (13 ∷ 10 ∷ []) text (IsUtf8-from_ascii (13 ∷ 10 ∷ []) (IsAscii-cons 13 (10 ∷ []) (omega arith) (IsAscii-cons 10 [] (omega arith) IsAscii-nil)))
-    ∙ ap (λ l. l ++ chars text) crlf_is
-
-pub space_counted : IsCounted (32 ∷ [])
-unfolding pieces
-space_counted = rw space_is refl
-
-pub crlf_counted : IsCounted (cr ∷ lf ∷ [])
-unfolding pieces
-crlf_counted = rw crlf_is refl
 
 -- the last row is the greatest, and row 0 the least
 record Top (t : Extent) : Type 0 where
@@ -72,20 +48,20 @@ top_along : (cols : ℕ) (ps : List Piece) (t : Extent) → Top t → Top (reach
 top_along cols [] t h = h
 top_along cols (piece ∷ more) t h = top_along cols more (reach t (next_place cols piece (place_of t))) (top_piece cols piece t h)
 
-top_text : (cols : ℕ) (changes : Batch) (t : Extent) → AreCounted changes → Top t → Top (extent_after_all cols changes t)
+top_text : (cols : ℕ) (changes : Batch) (t : Extent) → list_all is_text changes ≡ true → Top t → Top (extent_after_all cols changes t)
 top_text cols [] t a h = h
 top_text cols (Attribute x ∷ changes) t a h = top_text cols changes t a h
 top_text cols (AllAttributes x ∷ changes) t a h = top_text cols changes t a h
-top_text cols (Text text ∷ changes) t a h = top_text cols changes _ a.1 (top_along cols (pieces text) t h)
-top_text cols (ClearScreen c ∷ changes) t a h = elim a [ ]
-top_text cols (ClearToEndOfScreen c ∷ changes) t a h = elim a [ ]
-top_text cols (CursorPosition x y ∷ changes) t a h = elim a [ ]
+top_text cols (Text text ∷ changes) t a h = top_text cols changes _ a (top_along cols (pieces text) t h)
+top_text cols (ClearScreen c ∷ changes) t a h = absurd (false≢true a)
+top_text cols (ClearToEndOfScreen c ∷ changes) t a h = absurd (false≢true a)
+top_text cols (CursorPosition x y ∷ changes) t a h = absurd (false≢true a)
 
 top_edge : (cols : ℕ) (b : Bool) (t : Extent) → Top t → Top (extent_after_all cols (cond b (Text (32 ∷ []) ∷ []) []) t)
 top_edge cols true t h = top_along cols (pieces (32 ∷ [])) t h
 top_edge cols false t h = h
 
-top_shown : (w : ℕ) (scene : Scene) → AreCounted scene.prompt × (AreCounted scene.line × AreCounted (lower_changes scene.lower)) → Top (extent_after_all w (shown_part w scene) start_extent)
+top_shown : (w : ℕ) (scene : Scene) → (list_all is_text scene.prompt ≡ true) × ((list_all is_text scene.line ≡ true) × (list_all is_text (lower_changes scene.lower) ≡ true)) → Top (extent_after_all w (shown_part w scene) start_extent)
 top_shown w scene counted =
     let head = before_line scene.prompt in
     let low = lower_changes scene.lower in
@@ -102,7 +78,7 @@ top_shown w scene counted =
     (top_edge w (eqb (place_after_all w (head ++ scene.line) origin).x w) (extent_after_all w (head ++ scene.line) start_extent) two))
 
 -- the measured height is the row in which the painting ends
-pub measured_height : (w : ℕ) (scene : Scene) → AreCounted scene.prompt × (AreCounted scene.line × AreCounted (lower_changes scene.lower))
+pub measured_height : (w : ℕ) (scene : Scene) → (list_all is_text scene.prompt ≡ true) × ((list_all is_text scene.line ≡ true) × (list_all is_text (lower_changes scene.lower) ≡ true))
     → (n : ℕ) → (place_after_all w (shown_part w scene) origin).y ≡ pos n → height w (shown_part w scene) ≡ n
 measured_height w scene counted n at =
     let t : Extent = extent_after_all w (shown_part w scene) start_extent in

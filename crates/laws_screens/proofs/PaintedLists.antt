@@ -22,9 +22,9 @@ in-sight-below (Some h) s s' le low = omega (arith, le, low)
 
 module _ {C : Type 0} where
   -- each painting of a list is fit
-  abbrev pub AreFit : Option ℕ → List (SheetPainting C) → Type 0
-  AreFit rows [] = Unit {0}
-  AreFit rows (p ∷ more) = IsFit rows p × AreFit rows more
+  abbrev pub AreFit : Option ℕ → C → List (SheetPainting C) → Type 0
+  AreFit rows b [] = Unit {0}
+  AreFit rows b (p ∷ more) = IsFit rows b p × AreFit rows b more
 
   -- ---- where a painting begins
 
@@ -37,7 +37,7 @@ module _ {C : Type 0} where
   IsBefore false s (Some back) t = back t.row ≡ s
 
   -- from a screen whose cursor is where the painting before left it, or at column 0
-  painted_from : (rows : Option ℕ) (b : C) (p : SheetPainting C) (s : ℕ) (before : Option (ℕ → ℕ)) (t : PictureOf C) → IsFit rows p → InSight rows s → IsBefore false s before t
+  painted_from : (rows : Option ℕ) (b : C) (p : SheetPainting C) (s : ℕ) (before : Option (ℕ → ℕ)) (t : PictureOf C) → IsFit rows b p → InSight rows s → IsBefore false s before t
       → Painted p.cols b s (raised_row rows p.cols s p.sheet) p.sheet t (steps_on rows p.cols (painting_strokes b before p) t)
   painted_from rows b p s None t fit inside k = painted rows b p s t fit inside k.0 k.1
   painted_from rows b p s (Some back) t fit inside k =
@@ -77,7 +77,7 @@ module _ {C : Type 0} where
   raised-le (Some h) w s sheet = omega arith
 
   -- one painting, its screen cleared or not
-  painted_begun : (rows : Option ℕ) (cuts : Bool) (b : C) (v : ℕ) (p : SheetPainting C) (s : ℕ) (before : Option (ℕ → ℕ)) (t : PictureOf C) → IsFit rows p → InSight rows s → IsBefore p.cleared s before t
+  painted_begun : (rows : Option ℕ) (cuts : Bool) (b : C) (v : ℕ) (p : SheetPainting C) (s : ℕ) (before : Option (ℕ → ℕ)) (t : PictureOf C) → IsFit rows b p → InSight rows s → IsBefore p.cleared s before t
       → Painted p.cols b s (raised_row rows p.cols (if p.cleared then 0 else s) p.sheet) p.sheet (resized cuts b v p.cols t)
       (steps_on rows p.cols (painting_strokes b before p) (begun cuts b v p t))
   painted_begun rows cuts b v p s before t fit inside k = by_cleared p.cleared k
@@ -128,12 +128,12 @@ module _ {C : Type 0} where
   }
 
   -- where the painting before left the cursor, the next one begins
-  left-before : (s : ℕ) (p : SheetPainting C) (cleared : Bool) (t : PictureOf C) → IsLed p → t.row ≡ s + sheet_cursor_row p.cols p.sheet → IsBefore cleared s (Some p.back) t
-  left-before s p true t led row = led.back 0 ∙ omega arith
-  left-before s p false t led row = led.back t.row ∙ omega (arith, row)
+  left-before : (b : C) (s : ℕ) (p : SheetPainting C) (cleared : Bool) (t : PictureOf C) → IsLed b p → t.row ≡ s + sheet_cursor_row p.cols p.sheet → IsBefore cleared s (Some p.back) t
+  left-before b s p true t led row = led.back 0 ∙ omega arith
+  left-before b s p false t led row = led.back t.row ∙ omega (arith, row)
 
   -- the paintings over a fresh one
-  painted_over : (rows : Option ℕ) (cuts : Bool) (b : C) (s : ℕ) (p : SheetPainting C) (more : List (SheetPainting C)) (t : PictureOf C) → IsLed p → AreFit rows more → InSight rows s → IsFreshSheet p.cols s b p.sheet t
+  painted_over : (rows : Option ℕ) (cuts : Bool) (b : C) (s : ℕ) (p : SheetPainting C) (more : List (SheetPainting C)) (t : PictureOf C) → IsLed b p → AreFit rows b more → InSight rows s → IsFreshSheet p.cols s b p.sheet t
       → AreShownOver cuts b (narrowest p.cols (cols_of more)) s (top_row rows s more) (last_painting p more) t (paint_all rows cuts b p.cols (Some p.back) more t)
   painted_over rows cuts b s p [] t led fit inside fresh = record {
     fresh = fresh;
@@ -144,13 +144,13 @@ module _ {C : Type 0} where
       let s1 : ℕ = raised_row rows next.cols (if next.cleared then 0 else s) next.sheet in
       let le : s1 ≤ s = top-le rows s (next ∷ []) in
       let u : PictureOf C = steps_on rows next.cols (painting_strokes b (Some p.back) next) (begun cuts b p.cols next t) in
-      let one = painted_begun rows cuts b p.cols next s (Some p.back) t fit.0 inside (left-before s p next.cleared t led fresh.row) in
+      let one = painted_begun rows cuts b p.cols next s (Some p.back) t fit.0 inside (left-before b s p next.cleared t led fresh.row) in
       let rest = painted_over rows cuts b s1 next more u fit.0.led fit.1 (in-sight-below rows s s1 le inside) one.fresh in
       joined cuts b p.cols s s1 (top_row rows s1 more) next (last_painting next more) (cols_of more) t u _ le (top-le rows s1 more) one rest
 
   -- After a list of paintings the screen shows the last one fresh.
   pub painted_all : (rows : Option ℕ) (cuts : Bool) (b : C) (v s : ℕ) (before : Option (ℕ → ℕ)) (first : SheetPainting C) (more : List (SheetPainting C)) (t : PictureOf C)
-      → AreFit rows (first ∷ more) → InSight rows s → IsBefore first.cleared s before t
+      → AreFit rows b (first ∷ more) → InSight rows s → IsBefore first.cleared s before t
       → AreShownOver cuts b (narrowest v (cols_of (first ∷ more))) s (top_row rows s (first ∷ more)) (last_painting first more) t (paint_all rows cuts b v before (first ∷ more) t)
   painted_all rows cuts b v s before first more t fit inside k =
       let s1 : ℕ = raised_row rows first.cols (if first.cleared then 0 else s) first.sheet in

@@ -7,7 +7,7 @@ use Rattle.std.proofs.lemmas.List.Folds.{list_all-append}
 use Rattle.std.proofs.Math.Nat.{min-eq_right}
 use Rattle.laws_screens.specs.Strokes.{PictureOf, Stroke, cleared_in, step, steps, excess, scrolled, steps_on, InSight}
 use Rattle.laws_screens.specs.Strokes.Stroke.{Move}
-use Rattle.laws_screens.specs.Sheets.{Sheet, rows_of_line, sheet_text_row, sheet_last_row, sheet_cursor_row, last_length, IsInText, IsInLowerLines, AreLinesShown, IsFreshSheet, typed, broken, drawing, IsLow, raised_row}
+use Rattle.laws_screens.specs.Sheets.{Sheet, Writing, rows_of_line, sheet_text_row, sheet_last_row, sheet_cursor_row, last_length, IsInText, IsInLowerLines, AreLinesShown, IsFreshSheet, typed, broken, drawing, IsLow, raised_row}
 use Rattle.laws_screens.specs.Paintings.{SheetPainting, IsLed, IsFit, closing_strokes, seen_row, IsClosedSheet}
 use Rattle.laws_screens.proofs.DrawnSheets.{Drawn, drawn, all_cells, above-cells, fresh}
 use Rattle.laws_screens.proofs.SeenRows.{seen_from, Sees, sees-same, sees-scrolled, is_typing, typed-types, broken-types, sees-typing, sees-clear, sees-still, steps_on-append}
@@ -67,20 +67,20 @@ module _ {C : Type 0} where
     pub fresh : IsFreshSheet w s' b sheet after
     pub above : (r c : ℕ) → r < s' → c < w → after.cell r c ≡ before.cell (r + (s - s')) c
 
-  typing : (sheet : Sheet C) → list_all is_typing (typed sheet.text ++ broken sheet.lower) ≡ true
-  typing sheet =
-      list_all-append is_typing (typed sheet.text) (broken sheet.lower)
-      ∙ and_from (list_all is_typing (typed sheet.text)) (list_all is_typing (broken sheet.lower)) (typed-types sheet.text) (broken-types sheet.lower)
+  typing : (writing : Writing C) → list_all is_typing (typed writing.text ++ broken writing.lower) ≡ true
+  typing writing =
+      list_all-append is_typing (typed writing.text) (broken writing.lower)
+      ∙ and_from (list_all is_typing (typed writing.text)) (list_all is_typing (broken writing.lower)) (typed-types writing.text) (broken-types writing.lower)
 
   -- the drawing on some rows is a window of the one without a bottom
-  sees-drawn : (rows : Option ℕ) (b : C) (w last : ℕ) (sheet : Sheet C) (before : PictureOf C) → InSight rows before.row → (steps w (drawing b sheet) before).row ≡ last
-      → Sees (seen_from rows 0 last) (steps_on rows w (drawing b sheet) before) (steps w (drawing b sheet) before)
-  sees-drawn rows b w last sheet before low at =
+  sees-drawn : (rows : Option ℕ) (b : C) (w last : ℕ) (writing : Writing C) (before : PictureOf C) → InSight rows before.row → (steps w (drawing b writing) before).row ≡ last
+      → Sees (seen_from rows 0 last) (steps_on rows w (drawing b writing) before) (steps w (drawing b writing) before)
+  sees-drawn rows b w last writing before low at =
       let clear : PictureOf C = record before { cell = cleared_in before.cell before.row before.col b } in
-      let strokes : List (Stroke C) = typed sheet.text ++ broken sheet.lower in
+      let strokes : List (Stroke C) = typed writing.text ++ broken writing.lower in
       let start : Sees 0 (scrolled rows clear) clear = sees-still rows 0 clear clear low (sees-same clear) in
       subst (λ n. Sees (seen_from rows 0 n) (steps_on rows w strokes (scrolled rows clear)) (steps w strokes clear)) at
-      (sees-typing rows w strokes 0 (scrolled rows clear) clear (typing sheet) (still-low rows clear low) start)
+      (sees-typing rows w strokes 0 (scrolled rows clear) clear (typing writing) (still-low rows clear low) start)
     where
       still-low : (rows : Option ℕ) (s : PictureOf C) → InSight rows s.row → InSight rows (scrolled rows s).row
       still-low None s h = tt
@@ -96,7 +96,7 @@ module _ {C : Type 0} where
   up-le (Some h) w s sheet inside low = omega (arith, inside, low)
 
   -- the last move leads within what is seen
-  module _ (rows : Option ℕ) (b : C) (p : SheetPainting C) (s : ℕ) (before : PictureOf C) (fit : IsFit rows p) (inside : InSight rows s) (row : before.row ≡ s) (col : before.col ≡ 0) where
+  module _ (rows : Option ℕ) (b : C) (p : SheetPainting C) (s : ℕ) (before : PictureOf C) (fit : IsFit rows b p) (inside : InSight rows s) (row : before.row ≡ s) (col : before.col ≡ 0) where
     abbrev w : ℕ
     w = p.cols
 
@@ -110,16 +110,16 @@ module _ {C : Type 0} where
     t = seen_from rows 0 last
 
     abbrev u : PictureOf C
-    u = steps w (drawing b p.sheet) before
+    u = steps w (drawing b p.writing) before
 
     abbrev x : PictureOf C
-    x = steps_on rows w (drawing b p.sheet) before
+    x = steps_on rows w (drawing b p.writing) before
 
     all : Drawn w last (last_length (length p.sheet.text) p.sheet.lower) (all_cells b w s p.sheet before) u
-    all = drawn b w s p.sheet before fit.led.wide row col fit.led.off_edge
+    all = drawn b w s p.writing p.sheet before fit.led.wide row col fit.led.laid fit.led.narrow fit.led.narrow_below fit.led.off_edge
 
     seen : Sees t x u
-    seen = sees-drawn rows b w last p.sheet before (subst (λ r. InSight rows r) (sym row) inside) all.row
+    seen = sees-drawn rows b w last p.writing before (subst (λ r. InSight rows r) (sym row) inside) all.row
 
     abbrev moved : PictureOf C → PictureOf C
     moved q = step w (Move p.to_row p.to_col) q
@@ -153,9 +153,9 @@ module _ {C : Type 0} where
     is : s' + up ≡ s
     is = up-is rows w s p.sheet inside fit.low
 
-    pub painted : Painted w b s s' p.sheet before (steps_on rows w (drawing b p.sheet ++ Move p.to_row p.to_col ∷ []) before)
+    pub painted : Painted w b s s' p.sheet before (steps_on rows w (drawing b p.writing ++ Move p.to_row p.to_col ∷ []) before)
     painted =
-        let e : steps_on rows w (drawing b p.sheet ++ Move p.to_row p.to_col ∷ []) before ≡ scrolled rows (moved x) = steps_on-append rows w (drawing b p.sheet) (Move p.to_row p.to_col ∷ []) before in
+        let e : steps_on rows w (drawing b p.writing ++ Move p.to_row p.to_col ∷ []) before ≡ scrolled rows (moved x) = steps_on-append rows w (drawing b p.writing) (Move p.to_row p.to_col ∷ []) before in
         let q : IsFreshSheet w s b p.sheet (moved u) = fresh b w s p.sheet before fit.led.wide (moved u) all.cells row-is col-is in
         rw e (record {
           fresh = fresh_seen b w s' up p.sheet (scrolled rows (moved x)) (moved u) sees (subst (λ r. IsFreshSheet w r b p.sheet (moved u)) (sym is) q);
@@ -180,7 +180,7 @@ module _ {C : Type 0} where
   low-again (Some h) s some = omega (arith, some)
 
   -- at whatever number of columns
-  pub closed : (rows : Option ℕ) (b : C) (w s : ℕ) (p : SheetPainting C) (before : PictureOf C) → 2 ≤ w → IsLed p → InSight rows 0 → before.row ≡ s + sheet_cursor_row p.cols p.sheet
+  pub closed : (rows : Option ℕ) (b : C) (w s : ℕ) (p : SheetPainting C) (before : PictureOf C) → 2 ≤ w → IsLed b p → InSight rows 0 → before.row ≡ s + sheet_cursor_row p.cols p.sheet
       → IsClosedSheet rows w b (s + sheet_last_row p.cols p.sheet) before (steps_on rows w (closing_strokes b p) before)
   closed rows b w s p before two led some row =
       let last : ℕ = s + sheet_last_row p.cols p.sheet in

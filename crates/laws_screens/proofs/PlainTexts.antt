@@ -9,7 +9,7 @@ use Rattle.tw_surface.specs.Characters.{is_printable, is_plain}
 use Rattle.tw_surface.specs.Scenes.{typed_text, Lower, lower_lines, IsPlainLower}
 use Rattle.tw_surface.specs.Lines.{before_lines, lines_of, text_of_lines}
 use Rattle.tw_surface.specs.Paintings.{lower_changes}
-use Rattle.tw_surface.proofs.RowLemmas.{plain_from_printable}
+use Rattle.laws_screens.proofs.PlainGlyphs.{plain_from_printable}
 
 -- ---- lines
 

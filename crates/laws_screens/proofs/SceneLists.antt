@@ -1,5 +1,5 @@
 -- Lists of plain scenes, one painted over the other, and what closes them.
-use Rattle.std.proofs.Common.{◌≡◌, ℕ, suc, ◌+◌, ◌≤◌, true, false, List, [], ◌∷◌, ◌++◌, refl, ap, ◌∙◌, arith}
+use Rattle.std.proofs.Common.{◌≡◌, ℕ, suc, ◌+◌, ◌≤◌, false, List, [], ◌∷◌, ◌++◌, refl, ap, ◌∙◌, arith}
 use Rattle.std.specs.List.{list_any, All}
 use Rattle.tw_surface.specs.ChangeView.{Batch}
 use Rattle.tw_surface.specs.Fresh.{IsFresh, IsSameAbove, IsClosed, last_row}
@@ -17,21 +17,9 @@ play_batches-append : (w : ℕ) (a b : List Batch) (t : Picture) → play_batche
 play_batches-append w [] b t = refl
 play_batches-append w (batch ∷ a) b t = play_batches-append w a b (play_all w batch t)
 
-pub incremental : (w s : ℕ) (first : Scene) (more : List Scene) (t : Picture) → 2 ≤ w → t.row ≡ s → t.col ≡ 0 → All IsPlain (first ∷ more)
-    → IsFresh w (start_row s (first ∷ more)) (last_of first more) (play_batches w (shown_batches w (first ∷ more)) t)
-    × IsSameAbove w (start_row s (first ∷ more)) t (play_batches w (shown_batches w (first ∷ more)) t)
-incremental w s first more t two row col plain =
-    let q = painted_run w s first more t two row col (are_plain (first ∷ more) plain) in (q.fresh, q.above)
-
 -- a run whose screen is not cleared paints from the row in which it was entered
 uncleared : (s : ℕ) (scenes : List Scene) → list_any (λ x. x.cleared) scenes ≡ false → start_row s scenes ≡ s
 uncleared s scenes e = rw e refl
-
-pub later_painting : (w s : ℕ) (first : Scene) (more : List Scene) (t : Picture) → 2 ≤ w → t.row ≡ s → t.col ≡ 0 → All IsPlain (first ∷ more)
-    → list_any (λ x. x.cleared) (first ∷ more) ≡ false
-    → IsFresh w s (last_of first more) (play_batches w (shown_batches w (first ∷ more)) t) × IsSameAbove w s t (play_batches w (shown_batches w (first ∷ more)) t)
-later_painting w s first more t two row col plain none =
-    rw (uncleared s (first ∷ more) none) at (incremental w s first more t two row col plain)
 
 pub first_painting : (w s : ℕ) (scene : Scene) (t : Picture) → 2 ≤ w → t.row ≡ s → t.col ≡ 0 → IsPlain scene → scene.cleared ≡ false
     → IsFresh w s scene (play_batches w (shown_batches w (scene ∷ [])) t) × IsSameAbove w s t (play_batches w (shown_batches w (scene ∷ [])) t)
@@ -41,18 +29,11 @@ first_painting w s scene t two row col plain none =
     let p : Painted w s scene t (play_batches w (shown_batches w (scene ∷ [])) t) = rw e at q in
     (p.fresh, p.above)
 
-pub cleared_painting : (w s : ℕ) (first : Scene) (more : List Scene) (t : Picture) → 2 ≤ w → t.row ≡ s → t.col ≡ 0 → All IsPlain (first ∷ more)
-    → list_any (λ x. x.cleared) (first ∷ more) ≡ true
-    → IsFresh w 0 (last_of first more) (play_batches w (shown_batches w (first ∷ more)) t)
-cleared_painting w s first more t two row col plain some =
-    let e : start_row s (first ∷ more) ≡ 0 = rw some refl in
-    rw e at ((incremental w s first more t two row col plain).0)
-
-pub closing_of-is : (w : ℕ) (first : Scene) (more : List Scene) → closing_of w (first ∷ more) ≡ closing (mark_of (painting w (last_of first more))) ∷ []
+closing_of-is : (w : ℕ) (first : Scene) (more : List Scene) → closing_of w (first ∷ more) ≡ closing (mark_of (painting w (last_of first more))) ∷ []
 closing_of-is w first [] = refl
 closing_of-is w first (next ∷ more) = closing_of-is w next more
 
-pub closed_run : (w s : ℕ) (first : Scene) (more : List Scene) (t : Picture) → 2 ≤ w → t.row ≡ s → t.col ≡ 0 → All IsPlain (first ∷ more)
+closed_run : (w s : ℕ) (first : Scene) (more : List Scene) (t : Picture) → 2 ≤ w → t.row ≡ s → t.col ≡ 0 → All IsPlain (first ∷ more)
     → IsClosed w (last_row w (start_row s (first ∷ more)) (last_of first more)) (play_batches w (shown_batches w (first ∷ more)) t)
     (play_batches w (closing_of w (first ∷ more)) (play_batches w (shown_batches w (first ∷ more)) t))
 closed_run w s first more t two row col all =

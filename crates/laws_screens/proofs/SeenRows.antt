@@ -1,9 +1,9 @@
 -- A screen of some rows shows a window of the screen without a bottom.
-use Rattle.std.proofs.Common.{◌≡◌, ℕ, ◌+◌, ◌-◌, ◌≤◌, Bool, true, false, ◌&&◌, ◌||◌, Option, Some, None, List, [], ◌∷◌, ◌++◌, inl, inr, refl, sym, ap, ◌∙◌, subst, arith, if◌then◌else◌, eqb, ltb, leb}
+use Rattle.std.proofs.Common.{◌≡◌, ℕ, ◌+◌, ◌-◌, ◌≤◌, Bool, true, false, ◌&&◌, ◌||◌, Option, Some, None, List, [], ◌∷◌, ◌++◌, length, inl, inr, refl, sym, ap, ◌∙◌, subst, arith, if◌then◌else◌, eqb, ltb, leb}
 use Rattle.std.specs.List.{list_all}
 use Rattle.std.proofs.lemmas.Bool.{cases_eq, cases_lt, eq-eqb, ne_eqb, lt-ltb, le-ltb, false≢true, and_from}
 use Rattle.std.proofs.lemmas.List.Folds.{list_all-append}
-use Rattle.laws_screens.specs.Strokes.{PictureOf, Stroke, put_in, cleared_in, put, step, steps, excess, scrolled, steps_on, InSight}
+use Rattle.laws_screens.specs.Strokes.{PictureOf, Stroke, put_in, put_all, cleared_in, put, step, steps, excess, scrolled, steps_on, InSight}
 use Rattle.laws_screens.specs.Strokes.Stroke.{Put, Return, Feed, Clear, ClearBehind, Move}
 use Rattle.laws_screens.specs.Sheets.{typed, broken}
 
@@ -64,11 +64,11 @@ module _ {C : Type 0} where
   is_typing (ClearBehind x) = false
   is_typing (Move row col) = false
 
-  pub typed-types : (line : List C) → list_all is_typing (typed line) ≡ true
+  pub typed-types : (line : List (List C)) → list_all is_typing (typed line) ≡ true
   typed-types [] = refl
   typed-types (x ∷ line) = typed-types line
 
-  pub broken-types : (lines : List (List C)) → list_all is_typing (broken lines) ≡ true
+  pub broken-types : (lines : List (List (List C))) → list_all is_typing (broken lines) ≡ true
   broken-types [] = refl
   broken-types (line ∷ more) =
       list_all-append is_typing (typed line) (broken more)
@@ -76,10 +76,11 @@ module _ {C : Type 0} where
 
   -- none of them leads up
   typing-row : (w : ℕ) (stroke : Stroke C) (s : PictureOf C) → is_typing stroke ≡ true → s.row ≤ (step w stroke s).row
-  typing-row w (Put x) s k = elim (cases_eq s.col w) [
-    | inl e ↦ rw (eq-eqb s.col w e) (omega arith)
-    | inr n ↦ rw (ne_eqb s.col w n) (omega arith)
-  ]
+  typing-row w (Put cells) s k = go (leb (s.col + length cells) w) refl
+    where
+      go : (x : Bool) → leb (s.col + length cells) w ≡ x → s.row ≤ (put w cells s).row
+      go true e = rw e (omega arith)
+      go false e = rw e (omega arith)
   typing-row w Return s k = omega arith
   typing-row w Feed s k = omega arith
   typing-row w (Clear x) s k = absurd (false≢true k)
@@ -102,22 +103,30 @@ module _ {C : Type 0} where
   sees-put_in t r c x f g h i j =
       ap (λ e. if e && eqb j c then x else f i j) (shift-eqb i r t) ∙ ap (λ y. if eqb (i + t) (r + t) && eqb j c then x else y) (h i j)
 
-  sees-put : (w t : ℕ) (x : C) (b u : PictureOf C) → Sees t b u → Sees t (put w x b) (put w x u)
-  sees-put w t x b u s = elim (cases_eq b.col w) [
-    | inl e ↦ rw (eq-eqb b.col w e, eq-eqb u.col w (s.col ∙ e)) (record {
-      row = omega (arith, s.row);
-      col = refl;
-      cell = λ i j. sees-put_in t (b.row + 1) 0 x b.cell u.cell s.cell i j ∙ ap (λ r. put_in u.cell r 0 x (i + t) j) (omega (arith, s.row));
-    })
-    | inr n ↦ rw (ne_eqb b.col w n, ne_eqb u.col w (λ e. n (sym s.col ∙ e))) (record {
-      row = s.row;
-      col = omega (arith, s.col);
-      cell = λ i j. sees-put_in t b.row b.col x b.cell u.cell s.cell i j ∙ ap (λ r. put_in u.cell r b.col x (i + t) j) (sym s.row) ∙ ap (λ c. put_in u.cell u.row c x (i + t) j) (sym s.col);
-    })
-  ]
+  sees-put_all : (t r c : ℕ) (cells : List C) (f g : ℕ → ℕ → C) → ((i j : ℕ) → f i j ≡ g (i + t) j) → (i j : ℕ) → put_all f r c cells i j ≡ put_all g (r + t) c cells (i + t) j
+  sees-put_all t r c [] f g h i j = h i j
+  sees-put_all t r c (x ∷ cells) f g h i j = sees-put_all t r (c + 1) cells (put_in f r c x) (put_in g (r + t) c x) (sees-put_in t r c x f g h) i j
+
+  sees-put : (w t : ℕ) (cells : List C) (b u : PictureOf C) → Sees t b u → Sees t (put w cells b) (put w cells u)
+  sees-put w t cells b u s = go (leb (b.col + length cells) w) refl
+    where
+      same : leb (u.col + length cells) w ≡ leb (b.col + length cells) w
+      same = ap (λ c. leb (c + length cells) w) s.col
+
+      go : (x : Bool) → leb (b.col + length cells) w ≡ x → Sees t (put w cells b) (put w cells u)
+      go true e = rw (same, e) (record {
+        row = s.row;
+        col = omega (arith, s.col);
+        cell = λ i j. sees-put_all t b.row b.col cells b.cell u.cell s.cell i j ∙ ap (λ r. put_all u.cell r b.col cells (i + t) j) (sym s.row) ∙ ap (λ c. put_all u.cell u.row c cells (i + t) j) (sym s.col);
+      })
+      go false e = rw (same, e) (record {
+        row = omega (arith, s.row);
+        col = refl;
+        cell = λ i j. sees-put_all t (b.row + 1) 0 cells b.cell u.cell s.cell i j ∙ ap (λ r. put_all u.cell r 0 cells (i + t) j) (omega (arith, s.row));
+      })
 
   sees-stroke : (w t : ℕ) (stroke : Stroke C) (b u : PictureOf C) → is_typing stroke ≡ true → Sees t b u → Sees t (step w stroke b) (step w stroke u)
-  sees-stroke w t (Put x) b u k s = sees-put w t x b u s
+  sees-stroke w t (Put cells) b u k s = sees-put w t cells b u s
   sees-stroke w t Return b u k s = record { row = s.row; col = refl; cell = s.cell }
   sees-stroke w t Feed b u k s = record { row = omega (arith, s.row); col = s.col; cell = s.cell }
   sees-stroke w t (Clear x) b u k s = absurd (false≢true k)

@@ -5,6 +5,7 @@ use Rattle.tw_surface.specs.Paintings.{painting, mark_of, start_move}
 use Rattle.tw_surface.specs.Places.{pieces}
 use Rattle.tw_surface.specs.Scenes.{Scene}
 use Rattle.tw_surface.specs.Scenes.Lower.{NoLower}
+use Rattle.laws_screens.specs.Glyphs.{glyphs}
 use Rattle.laws_screens.specs.Strokes.{PictureOf}
 use Rattle.laws_screens.specs.CharacterScreens.{cells_of}
 use Rattle.laws_screens.specs.Screens.{play_sized}
@@ -29,7 +30,7 @@ a_to_f = scene_of (97 ∷ 98 ∷ 99 ∷ 100 ∷ 101 ∷ 102 ∷ []) 6 NoLower fa
 changes_width : let after = play_sized None true characters 5 tt (sized_batches (record { scene = a_to_f; cols = 5 } ∷ record { scene = a_to_f; cols = 3 } ∷ record { scene = a_to_f; cols = 5 } ∷ [])) (cells_of full) in
     (rows_in after ≡ (65 ∷ 65 ∷ 65 ∷ 32 ∷ 32 ∷ []) ∷ (62 ∷ 32 ∷ 97 ∷ 98 ∷ 99 ∷ []) ∷ (100 ∷ 101 ∷ 102 ∷ 32 ∷ 32 ∷ []) ∷ (32 ∷ 32 ∷ 32 ∷ 32 ∷ 32 ∷ []) ∷ [])
     × (after.row ≡ 2) × (after.col ≡ 3)
-unfolding pieces
+unfolding glyphs pieces
 changes_width = (refl, refl, refl)
 
 -- A terminal that breaks its rows anew at three columns shows "> ab" in two of them, and the cursor in the second one.

@@ -10,6 +10,7 @@ use Rattle.tw_surface.specs.Scenes.Lower.{NoLower, Preview}
 use Rattle.tw_surface.specs.Scrolling.{play_batches_on}
 use Rattle.tw_surface.specs.PaintingBatches.{shown_batches, run_batches}
 use Rattle.laws_screens.specs.Sheets.{Sheet, painted_rows, raised_row}
+use Rattle.laws_screens.specs.Glyphs.{glyphs}
 use Rattle.laws_screens.specs.SceneSheets.{sheet_of}
 use Rattle.laws_screens.specs.StyledCells.{characters}
 use Rattle.laws_screens.proofs.WorkedPaintings.{scene_of, a_to_f}
@@ -37,7 +38,7 @@ scrolls_once : let after = play_batches_on 3 5 (shown_batches 5 (two_rows ∷ []
     (painted_rows 5 (five two_rows) ≡ 2) × (raised 2 two_rows ≡ 1)
     × (rows_in after ≡ (66 ∷ 66 ∷ 66 ∷ 66 ∷ []) ∷ (62 ∷ 32 ∷ 97 ∷ 98 ∷ []) ∷ (100 ∷ 101 ∷ 102 ∷ 32 ∷ []) ∷ [])
     × (after.row ≡ 2) × (after.col ≡ 3)
-unfolding pieces
+unfolding glyphs pieces
 scrolls_once = (refl, refl, refl, refl, refl)
 
 -- then a line of one row: the row below it is blank, and nothing comes back
@@ -48,7 +49,7 @@ stays_up : let after = play_batches_on 3 5 (shown_batches 5 (two_rows ∷ one_ro
     (raised 1 one_row ≡ 1)
     × (rows_in after ≡ (66 ∷ 66 ∷ 66 ∷ 66 ∷ []) ∷ (62 ∷ 32 ∷ 32 ∷ 32 ∷ []) ∷ (32 ∷ 32 ∷ 32 ∷ 32 ∷ []) ∷ [])
     × (after.row ≡ 1) × (after.col ≡ 2)
-unfolding pieces
+unfolding glyphs pieces
 stays_up = (refl, refl, refl, refl)
 
 -- the closing batch scrolls once more where the painting ends in the last row
@@ -56,7 +57,7 @@ closes_below : let after = play_batches_on 3 5 (run_batches 5 (two_rows ∷ []))
     (last_row 5 1 two_rows ≡ 2)
     × (rows_in after ≡ (62 ∷ 32 ∷ 97 ∷ 98 ∷ []) ∷ (100 ∷ 101 ∷ 102 ∷ 32 ∷ []) ∷ (32 ∷ 32 ∷ 32 ∷ 32 ∷ []) ∷ [])
     × (after.row ≡ 2) × (after.col ≡ 0)
-unfolding pieces
+unfolding glyphs pieces
 closes_below = (refl, refl, refl, refl)
 
 -- on a terminal that stops a move at the last row the closing batch would blank the painting's last row
@@ -66,7 +67,7 @@ play_stopped (change ∷ changes) s = let u = play 5 change s in play_stopped ch
 
 stopped_move_blanks : let after = play_stopped (closing (mark_of (painting 5 two_rows))) (play_batches_on 3 5 (shown_batches 5 (two_rows ∷ [])) full) in
     rows_in after ≡ (66 ∷ 66 ∷ 66 ∷ 66 ∷ []) ∷ (62 ∷ 32 ∷ 97 ∷ 98 ∷ []) ∷ (32 ∷ 32 ∷ 32 ∷ 32 ∷ []) ∷ []
-unfolding pieces
+unfolding glyphs pieces
 stopped_move_blanks = refl
 
 -- a cursor below the line: the rows down to it count, and the move to it scrolls
@@ -77,14 +78,14 @@ move_scrolls : let after = play_batches_on 3 5 (shown_batches 5 (far_cursor ∷ 
     (painted_rows 5 (five far_cursor) ≡ 3) × (raised 2 far_cursor ≡ 0)
     × (rows_in after ≡ (62 ∷ 32 ∷ 120 ∷ 32 ∷ []) ∷ (32 ∷ 32 ∷ 32 ∷ 32 ∷ []) ∷ (32 ∷ 32 ∷ 32 ∷ 32 ∷ []) ∷ [])
     × (after.row ≡ 2) × (after.col ≡ 2)
-unfolding pieces
+unfolding glyphs pieces
 move_scrolls = (refl, refl, refl, refl, refl)
 
 -- after a clearing all is painted from row 0 on
 clears : let after = play_batches_on 3 5 (shown_batches 5 (two_rows ∷ scene_of (97 ∷ []) 1 NoLower true ∷ [])) full in
     (rows_in after ≡ (62 ∷ 32 ∷ 97 ∷ 32 ∷ []) ∷ (32 ∷ 32 ∷ 32 ∷ 32 ∷ []) ∷ (32 ∷ 32 ∷ 32 ∷ 32 ∷ []) ∷ [])
     × (after.row ≡ 0) × (after.col ≡ 3)
-unfolding pieces
+unfolding glyphs pieces
 clears = (refl, refl, refl)
 
 -- a painting of four rows is not shown on three: its first row is gone, and the cursor stands in its second one
@@ -95,5 +96,5 @@ too_high : let after = play_batches_on 3 5 (shown_batches 5 (four_rows ∷ [])) 
     (painted_rows 5 (five four_rows) ≡ 4)
     × (rows_in after ≡ (97 ∷ 32 ∷ 32 ∷ 32 ∷ []) ∷ (98 ∷ 32 ∷ 32 ∷ 32 ∷ []) ∷ (99 ∷ 32 ∷ 32 ∷ 32 ∷ []) ∷ [])
     × (after.row ≡ 0) × (after.col ≡ 3)
-unfolding pieces
+unfolding glyphs pieces
 too_high = (refl, refl, refl, refl)

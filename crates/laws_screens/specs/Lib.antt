@@ -1,10 +1,14 @@
 pub mod Strokes
 pub mod Sheets
 pub mod Paintings
+pub mod Glyphs
 pub mod Pens
 pub mod SceneSheets
 pub mod SizedBatches
+pub mod PaintedAlike
 pub mod Screens
 pub mod StyledCells
+pub mod CursorCells
 pub mod CharacterScreens
 pub mod PlainScreens
+pub mod RowScenes

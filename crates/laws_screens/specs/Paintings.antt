@@ -2,12 +2,15 @@
 use Rattle.std.specs.Prelude.{ℕ, ◌≡◌, ◌+◌, ◌-◌, ◌%◌, ◌<◌, ◌≤◌, min, Bool, true, if◌then◌else◌, Option, Some, None, List, [], ◌∷◌, ◌++◌, length, map}
 use Rattle.laws_screens.specs.Strokes.{PictureOf, Stroke, filled, steps_on, resized}
 use Rattle.laws_screens.specs.Strokes.Stroke.{ClearBehind, Move}
-use Rattle.laws_screens.specs.Sheets.{Sheet, sheet_last_row, sheet_cursor_row, end_col, drawing, IsFreshSheet, IsLow, raised_row}
+use Rattle.std.specs.List.{list_all}
+use Rattle.laws_screens.specs.Sheets.{Sheet, Writing, laid_out, is_narrow, sheet_last_row, sheet_cursor_row, end_col, drawing, IsFreshSheet, IsLow, raised_row}
 
--- a painting of a sheet at cols columns, whether the screen is cleared just before, and its moves: the last one from
+-- a painting at cols columns: what is written and the sheet that it makes, whether the screen is cleared just before,
+-- and its moves: the last one from
 -- where the sheet ends to the cursor, by row and by column, and from there the one back to its first row and the one to
 -- the row under it
 pub record SheetPainting (C : Type 0) : Type 0 where
+  pub writing : Writing C
   pub sheet : Sheet C
   pub cols : ℕ
   pub cleared : Bool
@@ -16,9 +19,12 @@ pub record SheetPainting (C : Type 0) : Type 0 where
   pub back : ℕ → ℕ
   pub under : ℕ → ℕ
 
--- the moves lead where they should, and the text does not end after the last column
-pub record IsLed {C : Type 0} (p : SheetPainting C) : Type 0 where
+-- each cluster fits in a row, the moves lead where they should, and the text does not end after the last column
+pub record IsLed {C : Type 0} (b : C) (p : SheetPainting C) : Type 0 where
   pub wide : 2 ≤ p.cols
+  pub laid : p.sheet ≡ laid_out b p.cols p.writing p.sheet.at
+  pub narrow : list_all (is_narrow p.cols) p.writing.text ≡ true
+  pub narrow_below : list_all (list_all (is_narrow p.cols)) p.writing.lower ≡ true
   pub off_edge : length p.sheet.text % p.cols ≡ 0 → length p.sheet.text ≡ 0
   pub to_row : (r : ℕ) → p.to_row r ≡ r + sheet_cursor_row p.cols p.sheet - sheet_last_row p.cols p.sheet
   pub to_col : p.to_col (end_col p.cols p.sheet) ≡ p.sheet.at % p.cols
@@ -32,7 +38,7 @@ start_strokes (Some back) = Move back (λ c. 0) ∷ []
 
 -- the strokes of a painting
 abbrev pub painting_strokes : {C : Type 0} → C → Option (ℕ → ℕ) → SheetPainting C → List (Stroke C)
-painting_strokes b before p = start_strokes before ++ (drawing b p.sheet ++ Move p.to_row p.to_col ∷ [])
+painting_strokes b before p = start_strokes before ++ (drawing b p.writing ++ Move p.to_row p.to_col ∷ [])
 
 -- the screen of v columns on which a painting begins: at its own columns, and cleared where it says so
 abbrev pub begun : {C : Type 0} → Bool → C → ℕ → SheetPainting C → PictureOf C → PictureOf C
@@ -57,8 +63,8 @@ last_painting p [] = p
 last_painting p (next ∷ more) = last_painting next more
 
 -- a painting that is led and has room
-pub record IsFit {C : Type 0} (rows : Option ℕ) (p : SheetPainting C) : Type 0 where
-  pub led : IsLed p
+pub record IsFit {C : Type 0} (rows : Option ℕ) (b : C) (p : SheetPainting C) : Type 0 where
+  pub led : IsLed b p
   pub low : IsLow rows p.cols p.sheet
 
 -- After the last painting of a list the screen shows it fresh from row s on. Above it, what stood from row e on up is

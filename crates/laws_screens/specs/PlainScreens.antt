@@ -8,36 +8,18 @@ use Rattle.tw_surface.specs.Lines.{lines_of, text_of_lines, rows_of}
 use Rattle.tw_surface.specs.Scenes.{Scene, IsPlain}
 use Rattle.tw_surface.specs.Paintings.{painting}
 use Rattle.tw_surface.specs.Fresh.{IsFresh, IsSameAbove, IsClosed, last_row, cursor_row}
-use Rattle.tw_surface.specs.Simple.{IsSimple, spelled_scene}
-use Rattle.tw_surface.specs.PaintingBatches.{Shot, SizedScene, IsPlainAt, shot_of, scenes_of, batches, closing_batch, last_of, shown_batches, closing_of, run_batches, play_batches, start_row}
+use Rattle.laws_screens.specs.Glyphs.{IsMeasured}
+use Rattle.tw_surface.specs.PaintingBatches.{Shot, SizedScene, IsPlainAt, shot_of, scenes_of, batches, closing_batch, last_of, shown_batches, run_batches, play_batches, start_row}
 
--- the first painting of a run that enters at column 0 of row e is fresh from row e on, and the rows above are as they
--- were
-abbrev pub FirstPainting : Type 0
-FirstPainting = (w e : ℕ) (scene : Scene) (before : Picture) → 2 ≤ w → before.row ≡ e → before.col ≡ 0 → IsPlain scene → scene.cleared ≡ false
-    → let after = play_batches w (shown_batches w (scene ∷ [])) before in IsFresh w e scene after × IsSameAbove w e before after
-
--- so is each later one where the screen was not cleared
-abbrev pub LaterPainting : Type 0
-LaterPainting = (w e : ℕ) (first : Scene) (more : List Scene) (before : Picture)
-    → 2 ≤ w → before.row ≡ e → before.col ≡ 0 → All IsPlain (first ∷ more) → list_any (λ scene. scene.cleared) (first ∷ more) ≡ false
-    → let after = play_batches w (shown_batches w (first ∷ more)) before in
-    IsFresh w e (last_of first more) after × IsSameAbove w e before after
-
--- and each one from row 0 on once it was
-abbrev pub ClearedPainting : Type 0
-ClearedPainting = (w e : ℕ) (first : Scene) (more : List Scene) (before : Picture)
-    → 2 ≤ w → before.row ≡ e → before.col ≡ 0 → All IsPlain (first ∷ more) → list_any (λ scene. scene.cleared) (first ∷ more) ≡ true
-    → IsFresh w 0 (last_of first more) (play_batches w (shown_batches w (first ∷ more)) before)
-
--- every painting of a run that enters at column 0 of row e leaves the fresh painting of its scene, and the rows above
--- as they were at entry
+-- Of stations that are plain and for w columns: every painting of a run that enters at column 0 of row e leaves the fresh
+-- painting of its scene, from row 0 on once the screen was cleared, and the rows above as they were at entry.
 abbrev pub IncrementalEqualsFresh : Type 0
-IncrementalEqualsFresh = (w e : ℕ) (first : Scene) (more : List Scene) (before : Picture)
-    → 2 ≤ w → before.row ≡ e → before.col ≡ 0 → All IsPlain (first ∷ more)
-    → let s = start_row e (first ∷ more) in
-    let after = play_batches w (shown_batches w (first ∷ more)) before in
-    IsFresh w s (last_of first more) after × IsSameAbove w s before after
+IncrementalEqualsFresh = (w e : ℕ) (earlier : List SizedScene) (station : SizedScene) (before : Picture)
+    → 2 ≤ w → before.row ≡ e → before.col ≡ 0 → All (IsPlainAt w) (earlier ++ station ∷ [])
+    → let stations = earlier ++ station ∷ [] in
+    let s = start_row e (scenes_of stations) in
+    let after = play_batches w (batches (map shot_of stations)) before in
+    IsFresh w s station.scene after × IsSameAbove w s before after
 
 -- the batches up to a painting are a beginning of those of the whole list, whatever is painted later and at whatever
 -- size
@@ -46,23 +28,36 @@ Beginning = (first later : List Shot) → (rest : List Batch) × (batches (first
 
 -- the closing batch leaves the cursor under the last painting, blank from there on, and the rest as it was
 abbrev pub ClosingBatch : Type 0
-ClosingBatch = (w e : ℕ) (first : Scene) (more : List Scene) (before : Picture)
-    → 2 ≤ w → before.row ≡ e → before.col ≡ 0 → All IsPlain (first ∷ more)
-    → let after = play_batches w (shown_batches w (first ∷ more)) before in
-    IsClosed w (last_row w (start_row e (first ∷ more)) (last_of first more)) after
-    (play_batches w (closing_of w (first ∷ more)) after)
+ClosingBatch = (w e : ℕ) (earlier : List SizedScene) (station : SizedScene) (before : Picture)
+    → 2 ≤ w → before.row ≡ e → before.col ≡ 0 → All (IsPlainAt w) (earlier ++ station ∷ [])
+    → let shown = map shot_of (earlier ++ station ∷ []) in
+    let s = start_row e (scenes_of (earlier ++ station ∷ [])) in
+    let after = play_batches w (batches shown) before in
+    IsClosed w (last_row w s station.scene) after (play_batches w (closing_batch shown) after)
 
--- a second run that clears nothing paints under the first one, whose rows stay as its last painting left them
-abbrev pub Stacking : Type 0
-Stacking = (w e : ℕ) (first : Scene) (more : List Scene) (second : Scene) (others : List Scene) (before : Picture)
-    → 2 ≤ w → before.row ≡ e → before.col ≡ 0 → All IsPlain (first ∷ more) → All IsPlain (second ∷ others)
-    → list_any (λ scene. scene.cleared) (second ∷ others) ≡ false
-    → let shown = play_batches w (shown_batches w (first ∷ more)) before in
-    let entered = play_batches w (run_batches w (first ∷ more)) before in
-    let under = last_row w (start_row e (first ∷ more)) (last_of first more) + 1 in
-    IsSameAbove w under shown (play_batches w (shown_batches w (second ∷ others)) entered)
+-- a run of scenes is entered at column 0, and another one, which clears nothing, where the first one's closing batch
+-- left the cursor
+pub record AreStacked (w : ℕ) (first : Scene) (more : List Scene) (second : Scene) (others : List Scene) (before : Picture) : Type 0 where
+  pub wide : 2 ≤ w
+  pub at_start : before.col ≡ 0
+  pub plain : All IsPlain (first ∷ more)
+  pub plain_second : All IsPlain (second ∷ others)
+  pub uncleared : list_any (λ scene. scene.cleared) (second ∷ others) ≡ false
+
+-- Under the last row of the first one the second one is fresh, and above it all is as the first one's last painting left
+-- it, also once the second one is closed.
+abbrev pub StacksUnder : ℕ → ℕ → Picture → Picture → Scene → List Scene → Type 0
+StacksUnder w under shown entered second others =
+    let after = play_batches w (shown_batches w (second ∷ others)) entered in
+    IsSameAbove w under shown after
     × IsSameAbove w under shown (play_batches w (run_batches w (second ∷ others)) entered)
-    × IsFresh w under (last_of second others) (play_batches w (shown_batches w (second ∷ others)) entered)
+    × IsFresh w under (last_of second others) after
+
+-- So they stack.
+abbrev pub Stacking : Type 0
+Stacking = (w : ℕ) (first : Scene) (more : List Scene) (second : Scene) (others : List Scene) (before : Picture) → AreStacked w first more second others before
+    → let under = last_row w (start_row before.row (first ∷ more)) (last_of first more) + 1 in
+    StacksUnder w under (play_batches w (shown_batches w (first ∷ more)) before) (play_batches w (run_batches w (first ∷ more)) before) second others
 
 -- the row and the height that the painter counts are those that division gives
 abbrev pub CountedRows : Type 0
@@ -85,26 +80,6 @@ abbrev pub OneFreshPainting : Type 0
 OneFreshPainting = (w s : ℕ) (scene : Scene) (a b : Picture) → 2 ≤ w → IsFresh w s scene a → IsFresh w s scene b
     → ((r c : ℕ) → s ≤ r → c < w → a.cell r c ≡ b.cell r c) × (a.row ≡ b.row) × (a.col ≡ b.col)
 
--- of any list of stations: the batches up to a painting are a beginning of all of them, and where each station so far
--- is plain and for w columns, they leave its fresh painting
-abbrev pub EveryPainting : Type 0
-EveryPainting = (w e : ℕ) (earlier : List SizedScene) (station : SizedScene) (later : List SizedScene) (before : Picture)
-    → 2 ≤ w → before.row ≡ e → before.col ≡ 0 → All (IsPlainAt w) (earlier ++ station ∷ [])
-    → let played = batches (map shot_of (earlier ++ station ∷ [])) in
-    let s = start_row e (scenes_of (earlier ++ station ∷ [])) in
-    let after = play_batches w played before in
-    ((rest : List Batch) × (batches (map shot_of (earlier ++ station ∷ later)) ≡ played ++ rest))
-    × IsFresh w s station.scene after × IsSameAbove w s before after
-
--- and where that painting is the last one, the closing batch leaves the cursor under it
-abbrev pub LastPainting : Type 0
-LastPainting = (w e : ℕ) (earlier : List SizedScene) (station : SizedScene) (before : Picture)
-    → 2 ≤ w → before.row ≡ e → before.col ≡ 0 → All (IsPlainAt w) (earlier ++ station ∷ [])
-    → let all = map shot_of (earlier ++ station ∷ []) in
-    let s = start_row e (scenes_of (earlier ++ station ∷ [])) in
-    let after = play_batches w (batches all) before in
-    IsClosed w (last_row w s station.scene) after (play_batches w (closing_batch all) after)
-
--- a plain scene is simple, and its characters are its bytes
-abbrev pub PlainIsSimple : Type 0
-PlainIsSimple = (scene : Scene) → IsPlain scene → IsSimple scene × (spelled_scene scene ≡ scene)
+-- a plain scene is measured
+abbrev pub PlainIsMeasured : Type 0
+PlainIsMeasured = (w : ℕ) (scene : Scene) → 2 ≤ w → IsPlain scene → IsMeasured w scene

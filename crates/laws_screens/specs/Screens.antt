@@ -1,18 +1,18 @@
 -- What a screen shows of the batches of stations: any kind of cells, without a bottom or on some rows, at one number of
 -- columns or at changing ones.
-use Rattle.std.specs.Prelude.{ℕ, ◌≡◌, ◌+◌, ◌≤◌, Bool, true, Option, None, List, [], ◌∷◌, ◌++◌, map}
+use Rattle.std.specs.Prelude.{ℕ, ◌≡◌, ◌+◌, ◌≤◌, Bool, true, false, Option, None, List, [], ◌∷◌, ◌++◌, map}
 use Rattle.std.specs.List.{list_all, All}
 use Rattle.laws_screens.specs.Strokes.{PictureOf, InSight, steps_on, resized, narrowest}
 use Rattle.laws_screens.specs.Sheets.{IsFreshSheet, IsLow, sheet_last_row, sheet_cursor_row}
-use Rattle.laws_screens.specs.Paintings.{top_row, cols_of, last_painting, AreShownOver, IsClosedSheet}
+use Rattle.laws_screens.specs.Paintings.{SheetPainting, top_row, cols_of, AreShownOver, IsClosedSheet}
 use Rattle.tw_surface.specs.Defaults.{default_color}
 use Rattle.tw_surface.specs.Paintings.{painting, mark_of, closing}
 use Rattle.tw_surface.specs.PaintingBatches.{SizedScene, shot_of, mark_after}
-use Rattle.tw_surface.specs.Simple.{spelled_all, spelled_scene, IsSimpleWide}
+use Rattle.laws_screens.specs.PaintedAlike.{IsPaintedAs, ArePaintedAs}
 use Rattle.tw_surface.specs.Scenes.{is_text}
 use Rattle.laws_screens.specs.Pens.{Pen, kept_after_all, strokes_of}
 use Rattle.laws_screens.specs.SceneSheets.{sheet_of, painting_of}
-use Rattle.laws_screens.specs.SizedBatches.{SizedBatch, sized_after, sized_batches, spelled_sized}
+use Rattle.laws_screens.specs.SizedBatches.{SizedBatch, sized_after, sized_batches}
 
 -- an empty cell
 abbrev pub blank_of : {A C : Type 0} → Pen A C → C
@@ -28,37 +28,52 @@ play_sized rows cuts pen v a (sized ∷ more) t =
 
 -- a scene that has room on these rows
 abbrev pub HasRoom : {A C : Type 0} → Option ℕ → Pen A C → SizedScene → Type 0
-HasRoom rows pen station = IsLow rows station.cols (sheet_of pen station.cols (spelled_scene station.scene))
+HasRoom rows pen station = IsLow rows station.cols (sheet_of pen station.cols station.scene)
 
--- After the last of some simple stations the screen shows it fresh, and what stood above is as it was, moved up, in the
--- columns that the screen had all along; in the others it is blank where the screen cuts its rows.
+-- what is painted at some measured stations and at a last one
+abbrev pub paintings_to : {A C : Type 0} → Pen A C → List SizedScene → SizedScene → List (SheetPainting C)
+paintings_to pen measured last = map (painting_of pen) (measured ++ last ∷ [])
+
+-- The screen shows the last one fresh, and what stood above is as it was, moved up, in the columns that the screen had
+-- all along; in the others it is blank where the screen cuts its rows.
+abbrev pub ShowsLast : {A C : Type 0} → Option ℕ → Bool → Pen A C → ℕ → List SizedScene → SizedScene → PictureOf C → PictureOf C → Type 0
+ShowsLast rows cuts pen v measured last before after =
+    let paintings = paintings_to pen measured last in
+    AreShownOver cuts (blank_of pen) (narrowest v (cols_of paintings)) before.row (top_row rows before.row paintings) (painting_of pen last) before after
+
+-- So it is after some stations, each of which is painted as a measured one that has room.
 abbrev pub ShowsStations : {A C : Type 0} → Pen A C → Type 0
-ShowsStations {A} {C} pen = (rows : Option ℕ) (cuts : Bool) (v e : ℕ) (a : A) (earlier : List SizedScene) (station : SizedScene) (before : PictureOf C)
-    → before.row ≡ e → before.col ≡ 0 → InSight rows e
-    → All IsSimpleWide (earlier ++ station ∷ []) → All (HasRoom rows pen) (earlier ++ station ∷ [])
-    → let stations = earlier ++ station ∷ [] in
-    let paintings = map (painting_of pen) stations in
-    AreShownOver cuts (blank_of pen) (narrowest v (cols_of paintings)) e (top_row rows e paintings) (painting_of pen station) before
-    (play_sized rows cuts pen v a (spelled_sized (sized_batches stations)) before)
+ShowsStations {A} {C} pen = (rows : Option ℕ) (cuts : Bool) (v : ℕ) (a : A) (stations measured : List SizedScene) (last : SizedScene) (before : PictureOf C)
+    → before.col ≡ 0 → InSight rows before.row
+    → ArePaintedAs pen stations (measured ++ last ∷ []) → All (HasRoom rows pen) (measured ++ last ∷ [])
+    → ShowsLast rows cuts pen v measured last before (play_sized rows cuts pen v a (sized_batches stations) before)
 
 -- a prompt of attributes and texts, of whatever characters
 abbrev pub HasTextPrompt : SizedScene → Type 0
 HasTextPrompt station = list_all is_text station.scene.prompt ≡ true
 
--- So it is, whatever was painted and shown before, where the screen is cleared before the first of them: the last one
--- stands from row 0 on.
+-- the screen is cleared before the first of these stations
+abbrev pub begins_cleared : List SizedScene → Bool
+begins_cleared [] = false
+begins_cleared (station ∷ more) = station.scene.cleared
+
+-- a screen shows a station fresh from row 0 on
+abbrev pub ShowsFromTop : {A C : Type 0} → Pen A C → SizedScene → PictureOf C → Type 0
+ShowsFromTop pen station after = IsFreshSheet station.cols 0 (blank_of pen) (painting_of pen station).sheet after
+
+-- Whatever was painted and shown before, it shows the last one so, where it is cleared before the first of them.
 abbrev pub HealsStations : {A C : Type 0} → Pen A C → Type 0
-HealsStations {A} {C} pen = (rows : Option ℕ) (cuts : Bool) (v : ℕ) (a : A) (earlier : List SizedScene) (first : SizedScene) (more : List SizedScene) (before : PictureOf C)
-    → InSight rows 0 → All HasTextPrompt earlier → first.scene.cleared ≡ true
-    → All IsSimpleWide (first ∷ more) → All (HasRoom rows pen) (first ∷ more)
-    → let mark = mark_after None (map shot_of earlier) in
-    let last = last_painting (painting_of pen first) (map (painting_of pen) more) in
-    IsFreshSheet last.cols 0 (blank_of pen) last.sheet (play_sized rows cuts pen v a (spelled_sized (sized_after mark (first ∷ more))) before)
+HealsStations {A} {C} pen = (rows : Option ℕ) (cuts : Bool) (v : ℕ) (a : A) (earlier stations measured : List SizedScene) (last : SizedScene) (before : PictureOf C)
+    → InSight rows 0 → All HasTextPrompt earlier → begins_cleared stations ≡ true
+    → ArePaintedAs pen stations (measured ++ last ∷ []) → All (HasRoom rows pen) (measured ++ last ∷ [])
+    → ShowsFromTop pen last (play_sized rows cuts pen v a (sized_after (mark_after None (map shot_of earlier)) stations) before)
 
 -- The closing batch of a station, played where its cursor stands and at whatever columns the screen then has, leaves
 -- the cursor in the row under it, blank from there on, and the rows above as they were, moved up.
 abbrev pub ClosesStations : {A C : Type 0} → Pen A C → Type 0
-ClosesStations {A} {C} pen = (rows : Option ℕ) (w s : ℕ) (a : A) (station : SizedScene) (before : PictureOf C)
-    → 2 ≤ w → InSight rows 0 → IsSimpleWide station → before.row ≡ s + sheet_cursor_row station.cols (painting_of pen station).sheet
-    → IsClosedSheet rows w (blank_of pen) (s + sheet_last_row station.cols (painting_of pen station).sheet) before
-    (steps_on rows w (strokes_of pen a (spelled_all (closing (mark_of (painting station.cols station.scene))))) before)
+ClosesStations {A} {C} pen = (rows : Option ℕ) (w s : ℕ) (a : A) (station other : SizedScene) (before : PictureOf C)
+    → 2 ≤ w → InSight rows 0 → IsPaintedAs pen station other
+    → let sheet = (painting_of pen other).sheet in
+    before.row ≡ s + sheet_cursor_row other.cols sheet
+    → IsClosedSheet rows w (blank_of pen) (s + sheet_last_row other.cols sheet) before
+    (steps_on rows w (strokes_of pen a (closing (mark_of (painting station.cols station.scene)))) before)

@@ -1,5 +1,5 @@
 -- What a painting shows, by division alone, with any kind of cells.
-use Rattle.std.specs.Prelude.{ℕ, ◌≡◌, ◌+◌, ◌-◌, ◌/◌, ◌%◌, ◌<◌, ◌≤◌, ◌⊎◌, eqb, min, max, if◌then◌else◌, Option, Some, None, List, [], ◌∷◌, ◌++◌, length, map, slice_index_or}
+use Rattle.std.specs.Prelude.{ℕ, ◌≡◌, ◌+◌, ◌-◌, ◌/◌, ◌%◌, ◌<◌, ◌≤◌, ◌⊎◌, eqb, leb, min, max, Bool, if◌then◌else◌, Option, Some, None, List, [], ◌∷◌, ◌++◌, length, map, replicate, slice_index_or}
 use Rattle.std.specs.List.{sum_by}
 use Rattle.laws_screens.specs.Strokes.{PictureOf, Stroke}
 use Rattle.laws_screens.specs.Strokes.Stroke.{Put, Return, Feed, ClearBehind}
@@ -74,20 +74,42 @@ pub record IsFreshSheet {C : Type 0} (width s : ℕ) (b : C) (sheet : Sheet C) (
   pub row : after.row ≡ s + sheet_cursor_row width sheet
   pub col : after.col ≡ sheet.at % width
 
--- ---- its strokes
+-- ---- what is written
+
+-- the clusters of a text that begins at column 0, each by its cells, and those of the lines under it
+pub record Writing (C : Type 0) : Type 0 where
+  pub text : List (List C)
+  pub lower : List (List (List C))
+
+-- the cells of clusters from column x on, one after the other: a cluster goes on in its row, or, where it does not fit,
+-- in the next one, after b in the rest of its row
+abbrev pub laid : {C : Type 0} → C → ℕ → ℕ → List (List C) → List C
+laid b width x [] = []
+laid b width x (cells ∷ more) =
+    if leb (x + length cells) width then cells ++ laid b width (x + length cells) more
+    else replicate (width - x) b ++ (cells ++ laid b width (length cells) more)
+
+-- the sheet that it makes at width columns, with the cursor at an index
+abbrev pub laid_out : {C : Type 0} → C → ℕ → Writing C → ℕ → Sheet C
+laid_out b width writing at =
+    record { text = laid b width 0 writing.text; lower = map (laid b width 0) writing.lower; at = at }
+
+-- a cluster that fits in a row
+abbrev pub is_narrow : {C : Type 0} → ℕ → List C → Bool
+is_narrow width cells = leb (length cells) width
 
 -- a line is typed
-abbrev pub typed : {C : Type 0} → List C → List (Stroke C)
+abbrev pub typed : {C : Type 0} → List (List C) → List (Stroke C)
 typed line = map Put line
 
 -- lines are typed, each in the row under the one before
-abbrev pub broken : {C : Type 0} → List (List C) → List (Stroke C)
+abbrev pub broken : {C : Type 0} → List (List (List C)) → List (Stroke C)
 broken [] = []
 broken (line ∷ more) = Return ∷ Feed ∷ (typed line ++ broken more)
 
--- all is b from the cursor on, and then the sheet is typed
-abbrev pub drawing : {C : Type 0} → C → Sheet C → List (Stroke C)
-drawing b sheet = ClearBehind b ∷ (typed sheet.text ++ broken sheet.lower)
+-- all is b from the cursor on, and then it is typed
+abbrev pub drawing : {C : Type 0} → C → Writing C → List (Stroke C)
+drawing b writing = ClearBehind b ∷ (typed writing.text ++ broken writing.lower)
 
 -- ---- on some rows
 

@@ -3,7 +3,6 @@ use Rattle.std.specs.Prelude.{ℕ, ◌≡◌, Option, Some, None, List, [], ◌�
 use Rattle.tw_surface.specs.ChangeView.{Batch}
 use Rattle.tw_surface.specs.Paintings.{Mark, mark_of}
 use Rattle.tw_surface.specs.PaintingBatches.{SizedScene, shot_of, clearing, start_of, batches}
-use Rattle.tw_surface.specs.Simple.{spelled_all}
 
 -- a batch, and the columns that the screen has when it comes
 pub record SizedBatch : Type 0 where
@@ -26,10 +25,6 @@ sized_after mark (station ∷ more) =
 -- the batches of a list of stations from the first one on
 abbrev pub sized_batches : List SizedScene → List SizedBatch
 sized_batches stations = sized_after None stations
-
--- batches with the characters of their texts in place of bytes
-abbrev pub spelled_sized : List SizedBatch → List SizedBatch
-spelled_sized played = map (λ sized. record { cols = sized.cols; batch = spelled_all sized.batch }) played
 
 -- these are the batches of the list
 abbrev pub SizedBatches : Type 0

@@ -1,5 +1,5 @@
 -- Screens of any kind of cells, and what is done to them, stroke by stroke.
-use Rattle.std.specs.Prelude.{ℕ, ◌+◌, ◌-◌, ◌<◌, ◌&&◌, ◌||◌, eqb, ltb, leb, min, Bool, if◌then◌else◌, Option, Some, None, List, [], ◌∷◌}
+use Rattle.std.specs.Prelude.{ℕ, ◌+◌, ◌-◌, ◌<◌, ◌&&◌, ◌||◌, eqb, ltb, leb, min, Bool, if◌then◌else◌, Option, Some, None, List, [], ◌∷◌, length}
 
 -- the cell at each row and column, and the cursor, which waits after the last column at col = width
 pub record PictureOf (C : Type 0) : Type 0 where
@@ -7,10 +7,10 @@ pub record PictureOf (C : Type 0) : Type 0 where
   pub row : ℕ
   pub col : ℕ
 
--- a cell is put at the cursor; the cursor goes to column 0, or a row down; every cell becomes one cell, or every cell
--- from the cursor on; or the cursor moves, its row by one rule and its column by another
+-- the cells of a cluster are put at the cursor; the cursor goes to column 0, or a row down; every cell becomes one
+-- cell, or every cell from the cursor on; or the cursor moves, its row by one rule and its column by another
 pub data Stroke (C : Type 0) : Type 0 where
-  Put : C → Stroke C
+  Put : List C → Stroke C
   Return : Stroke C
   Feed : Stroke C
   Clear : C → Stroke C
@@ -25,12 +25,18 @@ put_in cell r c x i j = if eqb i r && eqb j c then x else cell i j
 abbrev pub cleared_in : {C : Type 0} → (ℕ → ℕ → C) → ℕ → ℕ → C → ℕ → ℕ → C
 cleared_in cell r c x i j = if ltb r i || (eqb r i && leb c j) then x else cell i j
 
--- a cell goes where the cursor stands, from after the last column to the first column of the next row
-abbrev pub put : {C : Type 0} → ℕ → C → PictureOf C → PictureOf C
-put width x s =
-    if eqb s.col width
-    then record { cell = put_in s.cell (s.row + 1) 0 x; row = s.row + 1; col = 1 }
-    else record { cell = put_in s.cell s.row s.col x; row = s.row; col = s.col + 1 }
+-- cells at row r from column c on, and every other cell as it was
+abbrev pub put_all : {C : Type 0} → (ℕ → ℕ → C) → ℕ → ℕ → List C → ℕ → ℕ → C
+put_all cell r c [] i j = cell i j
+put_all cell r c (x ∷ more) i j = put_all (put_in cell r c x) r (c + 1) more i j
+
+-- the cells of a cluster go where the cursor stands if they fit in its row, else to the first columns of the next row;
+-- what stood in the rest of the row stays
+abbrev pub put : {C : Type 0} → ℕ → List C → PictureOf C → PictureOf C
+put width cells s =
+    if leb (s.col + length cells) width
+    then record { cell = put_all s.cell s.row s.col cells; row = s.row; col = s.col + length cells }
+    else record { cell = put_all s.cell (s.row + 1) 0 cells; row = s.row + 1; col = length cells }
 
 -- one cell everywhere, and the cursor in the first row and column
 abbrev pub filled : {C : Type 0} → C → PictureOf C
@@ -38,7 +44,7 @@ filled x = record { cell = λ i j. x; row = 0; col = 0 }
 
 -- a stroke on a screen without a bottom
 abbrev pub step : {C : Type 0} → ℕ → Stroke C → PictureOf C → PictureOf C
-step width (Put x) s = put width x s
+step width (Put cells) s = put width cells s
 step width Return s = record s { col = 0 }
 step width Feed s = record s { row = s.row + 1 }
 step width (Clear x) s = filled x

@@ -1,4 +1,5 @@
-//! A terminal that fails at one of its calls.
+//! A terminal that fails at one of its calls. What a screen shows of each painting in these rows, and of the closing
+//! batch that follows the last one, say `stopped` and `run` of `read_line`.
 
 use crate::calls::play_calls;
 use crate::idle::line_from;

@@ -6,8 +6,10 @@ ghost use Rattle.test_editor.specs.PiecesHost.{Pieces, pieces_rules, preview_ove
 use crate::support::play_with;
 use std::alloc::{AllocError, Global};
 use std::test::Fail;
-use test_cases::{case_of, expanded, expect_cases, told_of};
-use tw_lineedit::{BasicHistory, LineEditorHost, OutputElement, Overrides};
+use test_cases::{case_of, expanded, expect_cases, terminal_of, told_of};
+use tw_lineedit::{
+    BasicHistory, History, LineEditBuffer, LineEditor, LineEditorHost, OutputElement, Overrides,
+};
 
 /// Plays a case over the host of a script.
 fn play(alloc: Global, lines: &str) -> Result<String, Fail> {
@@ -99,6 +101,30 @@ Some(\"line 99950\"), Some(\"line 99999\"), Some(\"line 50000\"), Some(\"line 99
 fn long_lines_prompts_histories_and_lists_are_read(rt: HostRuntime) -> Result<(), Fail> {
     let cases = expanded(rt.alloc(), LONG)?;
     expect_cases(rt.alloc(), cases.as_str(), play)
+}
+
+/// Returns true if a text of `count` letters is kept as a line and its copy, as a prompt and as a line of a history.
+fn is_kept(alloc: Global, count: usize) -> Result<bool, Fail> {
+    let text = "x".repeat(alloc, count)?;
+    let copy = LineEditBuffer::new(alloc, text.as_str(), 0)?.try_clone(alloc)?;
+    let mut terminal = terminal_of(alloc, 80, "")?;
+    let mut editor = LineEditor::new(alloc, &mut terminal)?;
+    editor.set_prompt(text.as_str())?;
+    let mut history = BasicHistory::new(alloc);
+    history.add(text.as_str())?;
+    let is_added = match history.get(alloc, 0)? {
+        Some(line) => line.as_str() == text.as_str(),
+        None => false,
+    };
+    Ok(is_added && copy.get_line() == text.as_str())
+}
+
+#[test]
+fn texts_of_all_lengths_are_kept(rt: HostRuntime) -> Result<(), Fail> {
+    for &count in &[0usize, 1, 255, 256, 4_096, 4_097, 65_536, 1_000_000] {
+        assert!(rt; is_kept(rt.alloc(), count)?);
+    }
+    Ok(())
 }
 
 /// A host whose preview is a list of texts.

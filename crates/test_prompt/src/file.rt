@@ -4,23 +4,46 @@ use crate::recent::lines_text;
 use std::alloc::Global;
 use std::io::{self, Error, ErrorKind, Write};
 use std::test::Fail;
+use std::{env, fs};
 use test_cases::{bytes_of, expect_rows};
-use tw_history_parts::{RecentHistory, WrittenHistory};
+use tw_history_parts::{FileHistory, RecentHistory, Unread, WrittenHistory};
 use tw_line::History;
 
 /// How many lines the histories keep.
 const LINES_KEPT: usize = 10;
 
-/// A writer to memory that fails after `calls_left` calls.
+/// A writer to memory that fails once, after `calls_left` calls, and counts how often it is flushed.
 #[derive(Drop)]
 struct Full {
     bytes: Vec<u8>,
     calls_left: usize,
+    flushes: usize,
+}
+
+impl Full {
+    fn new(alloc: Global, calls_left: usize) -> Self {
+        Full {
+            bytes: Vec::new(alloc),
+            calls_left,
+            flushes: 0,
+        }
+    }
+
+    /// Returns what was written, and how often it was flushed.
+    fn into_text(self) -> Result<(String, usize), Fail> {
+        let Full {
+            bytes,
+            calls_left: _,
+            flushes,
+        } = self;
+        Ok((String::from_utf8(bytes)?, flushes))
+    }
 }
 
 impl Write for Full {
     fn write(&mut self, buf: &[u8]) -> io::Result<usize> {
         let Some(left) = self.calls_left.checked_sub(1) else {
+            self.calls_left = usize::MAX;
             return Err(Error::from(ErrorKind::StorageFull));
         };
         self.calls_left = left;
@@ -31,6 +54,7 @@ impl Write for Full {
     }
 
     fn flush(&mut self) -> io::Result<()> {
+        self.flushes = self.flushes.saturating_add(1);
         Ok(())
     }
 }
@@ -60,18 +84,20 @@ fn resume<W: Write + Drop>(
     Ok(WrittenHistory::resume(alloc, history, bytes, Some(writer))?)
 }
 
-/// Returns the bytes that are written for lines that are added to those of a file: `BYTES<LINE|LINE..`.
+/// Returns how often what is written for lines that are added to those of a file is flushed, and what it is:
+/// `BYTES<LINE|LINE..`.
 fn write(alloc: Global, command: &str) -> Result<String, Fail> {
     let (text, lines) = command.split_once('<').ok_or("no lines")?;
     let before = bytes_of(alloc, text)?;
-    let mut bytes = Vec::new(alloc);
+    let mut writer = Full::new(alloc, usize::MAX);
     {
-        let mut history = resume(alloc, &before, &mut bytes)?;
+        let mut history = resume(alloc, &before, &mut writer)?;
         for line in lines.split('|') {
             history.add(line)?;
         }
     }
-    Ok(String::from_utf8(bytes)?)
+    let (written, flushes) = writer.into_text()?;
+    Ok(format!(in alloc; "{flushes} {written}")?)
 }
 
 /// Returns what `read` returns for the bytes of a file once lines are added to it: `BYTES<LINE|LINE..`.
@@ -103,16 +129,15 @@ fn failures<W: Write + Drop>(
     Ok(output)
 }
 
-/// Adds lines over a writer that fails: `CALLS BYTES<LINE|LINE..`.
+/// Adds lines over a writer that fails once, and returns what it has too: `CALLS BYTES<LINE|LINE..`.
 fn write_full(alloc: Global, command: &str) -> Result<String, Fail> {
     let (calls, command) = command.split_once(' ').ok_or("no calls")?;
     let (text, lines) = command.split_once('<').ok_or("no lines")?;
-    let full = Full {
-        bytes: Vec::new(alloc),
-        calls_left: calls.parse()?,
-    };
+    let mut full = Full::new(alloc, calls.parse()?);
     let before = bytes_of(alloc, text)?;
-    failures(alloc, &mut resume(alloc, &before, full)?, lines)
+    let told = failures(alloc, &mut resume(alloc, &before, &mut full)?, lines)?;
+    let (written, _) = full.into_text()?;
+    Ok(format!(in alloc; "{told}; {written:?}")?)
 }
 
 /// Adds lines where none is written: `unwritten LINES` where it ought to be, `memory LINES` where it is not.
@@ -171,9 +196,9 @@ read \n\n =>
 read one\n\n\ntwo\n => "one" "two"
 
 // lines are written as they are added, and a line that was cut off is ended first
-write <ls|a\nb|c:\\new| => ls\na\\nb\nc:\\\\new\n\n
-write one\n<two => two\n
-write one\ntw<two => \\-\\\ntwo\n
+write <ls|a\nb|c:\\new| => 4 ls\na\\nb\nc:\\\\new\n\n
+write one\n<two => 1 two\n
+write one\ntw<two => 2 \\-\\\ntwo\n
 read ls\na\\nb\nc:\\\\new\n\n => "ls" "a\\nb" "c:\\\\new"
 
 // a line that was cut off, wherever, is none in the next session either
@@ -188,10 +213,10 @@ long 600 => 601 true
 long 5000 => 5001 true
 long 70000 => 70001 true
 
-// a failure is reported once, and no line is lost
-full 1 <one|two|three => false true false "one" "two" "three"
-full 1 one\ntw<two|three => true false "one" "two" "three"
-full 0 one\ntw<two|three => true false "one" "two" "three"
+// a failure is reported once, and no line is lost; nothing is written behind it
+full 1 <one|two|three => false true false "one" "two" "three"; "one\\n"
+full 1 one\ntw<two|three => true false "one" "two" "three"; "\\\\-\\\\\\n"
+full 0 one\ntw<two|three => true false "one" "two" "three"; ""
 unwritten one|two => true false "one" "two"
 memory one|two => false false "one" "two"
 "#;
@@ -199,4 +224,65 @@ memory one|two => false false "one" "two"
 #[test]
 fn lines_are_written_and_read(rt: HostRuntime) -> Result<(), Fail> {
     expect_rows(rt.alloc(), FILES, obey)
+}
+
+/// Opens the history of a file with these bytes, which keeps `LIMIT` lines, and adds lines: `LIMIT BYTES`, or `LIMIT
+/// BYTES<LINE|LINE..`. Returns the failures, the lines, and the bytes that the file has then.
+fn open(rt: HostRuntime, path: &str, command: &str) -> Result<String, Fail> {
+    let alloc = rt.alloc();
+    let (limit, command) = command.split_once(' ').ok_or("no limit")?;
+    let (text, lines) = command.split_once('<').unwrap_or((command, ""));
+    let before = bytes_of(alloc, text)?;
+    fs::write(&rt, path, before.as_slice())?;
+    let mut history = FileHistory::open(rt, path, RecentHistory::new(alloc, limit.parse()?))?;
+    let told = if lines.is_empty() {
+        lines_text(alloc, &history)?
+    } else {
+        failures(alloc, &mut history, lines)?
+    };
+    let after = fs::read_to_string(&rt, path)?;
+    Ok(format!(in alloc; "{told}; {after:?}")?)
+}
+
+const OPENED: &str = r#"
+// a file keeps what it has, and lines are written behind it, or after the end of one that was cut off
+9 one\ntwo\n => "one" "two"; "one\\ntwo\\n"
+9 one\n<two|| three => false false false "one" "two" "" " three"; "one\\ntwo\\n\\n three\\n"
+9 <one => false "one"; "one\\n"
+9 one\ntw<two => false "one" "two"; "one\\ntw\\\\-\\\\\\ntwo\\n"
+
+// a file of several times as many lines is written anew, and no shorter one
+2 a\nb\nc\nd\ne\nf\ng\nh\n<i => false "h" "i"; "g\\nh\\ni\\n"
+2 a\nb\nc\nd\ne\nf\ng\n<h => false "g" "h"; "a\\nb\\nc\\nd\\ne\\nf\\ng\\nh\\n"
+"#;
+
+/// Returns a path that no other process uses.
+fn own_path(rt: HostRuntime) -> Result<String, Fail> {
+    let folder = env::temp_dir(&rt)?;
+    let id = fs::read_link(&rt, "/proc/self")?;
+    Ok(format!(in rt.alloc(); "{}/kept_history_{}", folder.as_str(), id.as_str())?)
+}
+
+#[test]
+fn files_keep_what_they_have(rt: HostRuntime) -> Result<(), Fail> {
+    let path = own_path(rt)?;
+    let opened = expect_rows(
+        rt.alloc(),
+        OPENED,
+        |_, command| open(rt, path.as_str(), command),
+    );
+    let removed = fs::remove_file(&rt, path.as_str());
+    opened?;
+    Ok(removed?)
+}
+
+/// A folder can't be read, and is not written.
+#[test]
+fn what_is_no_file_is_not_written(rt: HostRuntime) -> Result<(), Fail> {
+    let alloc = rt.alloc();
+    let mut history = FileHistory::open(rt, ".", RecentHistory::new(alloc, LINES_KEPT))?;
+    assert_eq!(rt; history.unread(), Some(Unread::File));
+    let told = failures(alloc, &mut history, "one|two")?;
+    assert_eq!(rt; told.as_str(), r#"true false "one" "two""#);
+    Ok(())
 }

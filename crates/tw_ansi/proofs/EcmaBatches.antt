@@ -15,12 +15,12 @@ use Rattle.tw_ansi.specs.Sequences.{set_attribute, set_attributes, to_column, to
 use Rattle.tw_ansi.specs.EcmaScreen.{EcmaScreen, receive_all, row_cleared, feed_line, return_to_start}
 use Rattle.tw_ansi.specs.EcmaScreen as terminal
 use Rattle.tw_ansi.specs.EcmaLaws.{at_rest, IsColor, rows_cleared}
-use Rattle.tw_ansi.specs.EcmaTexts.{IsOfRows, ShowsPicture}
+use Rattle.tw_ansi.specs.EcmaTexts.{IsOfRows, ShowsPicture, JoinsMarks}
 use Rattle.tw_ansi.specs.EcmaBatches.{CarriesAttributes, IsSendable, FirstIsShown, ChangeIsShown, BatchIsShown, AreSendable, StaysInRows, AllStayInRows, TerseBatchIsShown}
 use Rattle.tw_ansi.proofs.EcmaSequences.{received, columns_are_reached}
 use Rattle.tw_ansi.proofs.EcmaRenditions.{attribute_is_selected, attributes_are_selected}
 use Rattle.tw_ansi.proofs.EcmaClearings.{clears_below, clears_rows, clears_all}
-use Rattle.tw_ansi.proofs.EcmaTexts.{plain_text_is_shown}
+use Rattle.tw_ansi.proofs.EcmaTexts.{text_is_shown}
 use Rattle.tw_ansi.proofs.KnownTerminals.{keeps_text, clear_keeps}
 use Rattle.tw_ansi.proofs.EcmaScrolls.{still}
 use Rattle.tw_ansi.proofs.EcmaMoves.{move_shown, terse_move_shown}
@@ -275,16 +275,16 @@ module _ {A C : Type 0} (pen : Pen A C) where
   set_color t e is color = subst (λ (a : CellAttributes). IsColor a.background) (sym is) color
 
   pub change_is_shown : ChangeIsShown pen
-  change_is_shown h w (Text text) e t s some small fits a = plain_text_is_shown pen h w text e t s some small fits a
-  change_is_shown h w (Attribute change) e t s some small fits a =
+  change_is_shown h w (Text text) e t s joins some small fits a = text_is_shown pen h w text e t s joins some small fits a
+  change_is_shown h w (Attribute change) e t s joins some small fits a =
       let does = ap (receive_all pen h w (set_attribute change)) (rested t a.reading) ∙ attribute_is_selected pen h w change t fits in
       let to : CellAttributes = with_attribute change e.attributes in
       subst (λ u. ShowsPicture pen h w (record e { attributes = to }) u s) (sym does)
       (with_attributes h w e t s to (with_attribute change t.rendition) (ap (with_attribute change) a.rendition) a)
-  change_is_shown h w (AllAttributes to) e t s some small fits a =
+  change_is_shown h w (AllAttributes to) e t s joins some small fits a =
       let does = ap (receive_all pen h w (set_attributes to)) (rested t a.reading) ∙ attributes_are_selected pen h w to t fits.0 fits.1 in
       subst (λ u. ShowsPicture pen h w (record e { attributes = to }) u s) (sym does) (with_attributes h w e t s to to refl a)
-  change_is_shown h w (ClearScreen color) e t s some small fits a =
+  change_is_shown h w (ClearScreen color) e t s joins some small fits a =
       let q : IsColor t.rendition.background = set_color t e a.rendition fits.1 in
       let x : C = pen.paper color in
       let clear : ColorAttribute → List ℕ = λ set. to_first_cell ++ clear_with clear_all color set in
@@ -292,21 +292,21 @@ module _ {A C : Type 0} (pen : Pen A C) where
       subst (λ (v : CellAttributes). ShowsPicture pen h w (at_column 0 e) (receive_all pen h w (clear v.background) t) (steps_on (Some h) w (change_strokes pen (pen.attributes e.attributes) (ClearScreen color)) s)) a.rendition
       (subst (λ u. ShowsPicture pen h w (at_column 0 e) u (steps_on (Some h) w (change_strokes pen (pen.attributes e.attributes) (ClearScreen color)) s)) (sym does)
       (still pen h w (at_column 0 e) _ (filled x) (screen_cleared h w x e t s some fits.2 a)))
-  change_is_shown h w (ClearToEndOfScreen color) e t s some small fits a =
+  change_is_shown h w (ClearToEndOfScreen color) e t s joins some small fits a =
       let q : IsColor t.rendition.background = set_color t e a.rendition fits.1 in
       let x : C = pen.paper color in
       let sent : ColorAttribute → Sent = λ set. cond (leb e.cols e.x) (by_next_row e.cols color set e) (cond (eqb e.x 0) (by_rows color set e) (by_cells color set e)) in
       subst (λ (v : CellAttributes). Then h w t (sent v.background) (steps_on (Some h) w (change_strokes pen (pen.attributes e.attributes) (ClearToEndOfScreen color)) s)) a.rendition
       (still pen h w (sent t.rendition.background).next (receive_all pen h w (sent t.rendition.background).bytes t) (clear_from x s)
       (clear_cases h w color e t s some small fits.0 q fits.2 a fits.3 (cases_lt s.col w)))
-  change_is_shown h w (CursorPosition x y) e t s some small fits a = move_shown pen h w x y e t s some small fits a
+  change_is_shown h w (CursorPosition x y) e t s joins some small fits a = move_shown pen h w x y e t s some small fits a
 
   -- ---- batches
 
   -- what the pen keeps after a change is what the encoder then knows
   pub keeps_change : (h w : ℕ) (change : ChangeView) (e : Encoder) (s : PictureOf C) → CarriesAttributes pen → IsSendable pen h w e change s
       → kept_after pen (pen.attributes e.attributes) change ≡ pen.attributes (sent_change change e).next.attributes
-  keeps_change h w (Text text) e s carries fits = ap pen.attributes (sym (keeps_text text e fits))
+  keeps_change h w (Text text) e s carries fits = ap pen.attributes (sym (keeps_text text e))
   keeps_change h w (Attribute change) e s carries fits = carries change e.attributes
   keeps_change h w (AllAttributes to) e s carries fits = refl
   keeps_change h w (ClearScreen color) e s carries fits = refl
@@ -329,24 +329,24 @@ module _ {A C : Type 0} (pen : Pen A C) where
       ∙ ap (λ kept. steps_on (Some h) w (more kept) (steps_on (Some h) w strokes s)) keeps)) shown)
 
   pub batch_is_shown : BatchIsShown pen
-  batch_is_shown h w [] e t s carries some small fits a = a
-  batch_is_shown h w (change ∷ batch) e t s carries some small fits a =
+  batch_is_shown h w [] e t s carries joins some small fits a = a
+  batch_is_shown h w (change ∷ batch) e t s carries joins some small fits a =
       let x : Sent = sent_change change e in
       then_shown h w change batch x (sent_batch batch x.next) e t s (keeps_change h w change e s carries fits.0)
-      (batch_is_shown h w batch x.next (receive_all pen h w x.bytes t) (steps_on (Some h) w (change_strokes pen (pen.attributes e.attributes) change) s) carries some small fits.1
-      (change_is_shown h w change e t s some small fits.0 a))
+      (batch_is_shown h w batch x.next (receive_all pen h w x.bytes t) (steps_on (Some h) w (change_strokes pen (pen.attributes e.attributes) change) s) carries joins some small fits.1
+      (change_is_shown h w change e t s joins some small fits.0 a))
 
   -- ---- batches whose moves take few bytes
 
-  terse_is_shown : (h w : ℕ) (change : ChangeView) (e : Encoder) (t : EcmaScreen C) (s : PictureOf C) → 0 < w → w < 2 ^ 64
+  terse_is_shown : (h w : ℕ) (change : ChangeView) (e : Encoder) (t : EcmaScreen C) (s : PictureOf C) → JoinsMarks pen → 0 < w → w < 2 ^ 64
       → IsSendable pen h w e change s → StaysInRows h change s → ShowsPicture pen h w e t s
       → Then h w t (terse_change change e) (steps_on (Some h) w (change_strokes pen (pen.attributes e.attributes) change) s)
-  terse_is_shown h w (CursorPosition x y) e t s some small fits stays a = terse_move_shown pen h w x y e t s some small fits stays a
-  terse_is_shown h w (Text text) e t s some small fits stays a = change_is_shown h w (Text text) e t s some small fits a
-  terse_is_shown h w (Attribute change) e t s some small fits stays a = change_is_shown h w (Attribute change) e t s some small fits a
-  terse_is_shown h w (AllAttributes to) e t s some small fits stays a = change_is_shown h w (AllAttributes to) e t s some small fits a
-  terse_is_shown h w (ClearScreen color) e t s some small fits stays a = change_is_shown h w (ClearScreen color) e t s some small fits a
-  terse_is_shown h w (ClearToEndOfScreen color) e t s some small fits stays a = change_is_shown h w (ClearToEndOfScreen color) e t s some small fits a
+  terse_is_shown h w (CursorPosition x y) e t s joins some small fits stays a = terse_move_shown pen h w x y e t s some small fits stays a
+  terse_is_shown h w (Text text) e t s joins some small fits stays a = change_is_shown h w (Text text) e t s joins some small fits a
+  terse_is_shown h w (Attribute change) e t s joins some small fits stays a = change_is_shown h w (Attribute change) e t s joins some small fits a
+  terse_is_shown h w (AllAttributes to) e t s joins some small fits stays a = change_is_shown h w (AllAttributes to) e t s joins some small fits a
+  terse_is_shown h w (ClearScreen color) e t s joins some small fits stays a = change_is_shown h w (ClearScreen color) e t s joins some small fits a
+  terse_is_shown h w (ClearToEndOfScreen color) e t s joins some small fits stays a = change_is_shown h w (ClearToEndOfScreen color) e t s joins some small fits a
 
   -- the same is known then
   pub terse_next : (change : ChangeView) (e : Encoder) → (terse_change change e).next ≡ (sent_change change e).next
@@ -358,14 +358,14 @@ module _ {A C : Type 0} (pen : Pen A C) where
   terse_next (ClearToEndOfScreen color) e = refl
 
   pub terse_batch_is_shown : TerseBatchIsShown pen
-  terse_batch_is_shown h w [] e t s carries some small fits stays a = a
-  terse_batch_is_shown h w (change ∷ batch) e t s carries some small fits stays a =
+  terse_batch_is_shown h w [] e t s carries joins some small fits stays a = a
+  terse_batch_is_shown h w (change ∷ batch) e t s carries joins some small fits stays a =
       let x : Sent = terse_change change e in
       let drawn : PictureOf C = steps_on (Some h) w (change_strokes pen (pen.attributes e.attributes) change) s in
       let keeps : kept_after pen (pen.attributes e.attributes) change ≡ pen.attributes (terse_change change e).next.attributes =
       keeps_change h w change e s carries fits.0 ∙ ap (λ (n : Encoder). pen.attributes n.attributes) (sym (terse_next change e)) in
       then_shown h w change batch x (terse_batch batch x.next) e t s keeps
-      (terse_batch_is_shown h w batch x.next (receive_all pen h w x.bytes t) drawn carries some small
+      (terse_batch_is_shown h w batch x.next (receive_all pen h w x.bytes t) drawn carries joins some small
       (subst (λ n. AreSendable pen h w n batch drawn) (sym (terse_next change e)) fits.1)
       (subst (λ kept. AllStayInRows pen h w kept batch drawn) keeps stays.1)
-      (terse_is_shown h w change e t s some small fits.0 stays.0 a))
+      (terse_is_shown h w change e t s joins some small fits.0 stays.0 a))

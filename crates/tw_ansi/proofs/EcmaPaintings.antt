@@ -1,6 +1,8 @@
 -- Paintings are sendable.
-use Rattle.std.proofs.Common.{◌≡◌, ◌<◌, ℕ, Bool, true, false, cond, eqb, List, [], ◌∷◌, ◌++◌, Some, None, ap, subst, ◌∙◌, sym, refl, arith}
-use Rattle.std.specs.List.{AllByRecursion}
+use Rattle.std.proofs.Common.{◌≡◌, ◌<◌, ℕ, Bool, true, false, ◌||◌, cond, eqb, List, [], ◌∷◌, ◌++◌, Some, None, ap, subst, ◌∙◌, sym, refl, arith}
+use Rattle.std.specs.List.{list_all, AllByRecursion}
+use Rattle.unicode_segmentation.specs.Grapheme.{graphemes}
+use Rattle.tw_surface.specs.Characters.{is_plain}
 use Rattle.tw_surface.specs.Attributes.{with_attribute}
 use Rattle.tw_surface.specs.declared.cell.AttributeChange.{AttributeChange}
 use Rattle.tw_surface.specs.declared.cell.AttributeChange.TheVariants as attribute
@@ -24,24 +26,29 @@ use Rattle.tw_ansi.specs.EcmaLaws.{IsColor, IsAttribute}
 use Rattle.tw_ansi.specs.EcmaBatches.{CarriesAttributes, AreSendable}
 use Rattle.tw_ansi.specs.EcmaPaintings.{IsTypedChange, IsTypedLower, IsTypedScene, IsShowable, AreAllSendable, sent_batches, PaintingIsSendable, RepaintingIsSendable, ClosingIsSendable, PaintingKnowsColor, RunIsSendable, BatchesAreShown}
 use Rattle.tw_ansi.specs.EcmaScreen.{EcmaScreen, receive_all}
-use Rattle.tw_ansi.specs.EcmaTexts.{ShowsPicture}
+use Rattle.tw_ansi.specs.EcmaTexts.{ShowsPicture, is_sent, is_sent_cluster}
 use Rattle.tw_ansi.proofs.EcmaSequences.{received}
 use Rattle.tw_ansi.proofs.KnownTerminals.{keeps_text}
 use Rattle.tw_ansi.proofs.EcmaBatches.{batch_is_shown, keeps_change}
 
+-- a plain text is sent as it is measured
+pub plain_sent : (w : ℕ) (text : List ℕ) → list_all is_plain text ≡ true → is_sent w text ≡ true
+unfolding is_sent
+plain_sent w text h = ap (λ k. k || list_all (is_sent_cluster w) (graphemes true text)) h
+
 -- two lists of such changes
-both_typed : (xs ys : Batch) → AllByRecursion IsTypedChange xs → AllByRecursion IsTypedChange ys → AllByRecursion IsTypedChange (xs ++ ys)
-both_typed [] ys a b = b
-both_typed (x ∷ xs) ys a b = (a.0, both_typed xs ys a.1 b)
+both_typed : (w : ℕ) (xs ys : Batch) → AllByRecursion (IsTypedChange w) xs → AllByRecursion (IsTypedChange w) ys → AllByRecursion (IsTypedChange w) (xs ++ ys)
+both_typed w [] ys a b = b
+both_typed w (x ∷ xs) ys a b = (a.0, both_typed w xs ys a.1 b)
 
-space_typed : (t : Bool) → AllByRecursion IsTypedChange (cond t (Text (blank ∷ []) ∷ []) [])
-space_typed true = (refl, tt)
-space_typed false = tt
+space_typed : (w : ℕ) (t : Bool) → AllByRecursion (IsTypedChange w) (cond t (Text (blank ∷ []) ∷ []) [])
+space_typed w true = (plain_sent w (blank ∷ []) refl, tt)
+space_typed w false = tt
 
-lower_typed : (lower : Lower) → IsTypedLower lower → AllByRecursion IsTypedChange (lower_changes lower)
-lower_typed NoLower h = tt
-lower_typed (Preview elements) h = (refl, ((tt, tt), h))
-lower_typed (Search text) h = ((tt, tt), (h, tt))
+lower_typed : (w : ℕ) (lower : Lower) → IsTypedLower w lower → AllByRecursion (IsTypedChange w) (lower_changes lower)
+lower_typed w NoLower h = tt
+lower_typed w (Preview elements) h = (plain_sent w (13 ∷ 10 ∷ []) refl, ((tt, tt), h))
+lower_typed w (Search text) h = ((tt, tt), (h, tt))
 
 -- what a painting shows after its clearing and the first attributes
 abbrev pub shown : ℕ → Scene → Batch
@@ -49,14 +56,14 @@ shown w scene =
     ((scene.prompt ++ AllAttributes default_attributes ∷ []) ++ scene.line)
     ++ (edge_space w (place_after_all w (before_line scene.prompt ++ scene.line) origin) ++ lower_changes scene.lower)
 
-pub shown_typed : (w : ℕ) (scene : Scene) → IsTypedScene scene → AllByRecursion IsTypedChange (shown w scene)
+pub shown_typed : (w : ℕ) (scene : Scene) → IsTypedScene w scene → AllByRecursion (IsTypedChange w) (shown w scene)
 shown_typed w scene t =
     let place = place_after_all w (before_line scene.prompt ++ scene.line) origin in
-    let plain : AllByRecursion IsTypedChange (AllAttributes default_attributes ∷ []) = ((tt, tt), tt) in
-    let prompt : AllByRecursion IsTypedChange (scene.prompt ++ AllAttributes default_attributes ∷ []) = both_typed scene.prompt (AllAttributes default_attributes ∷ []) t.prompt plain in
-    both_typed ((scene.prompt ++ AllAttributes default_attributes ∷ []) ++ scene.line) (edge_space w place ++ lower_changes scene.lower)
-    (both_typed (scene.prompt ++ AllAttributes default_attributes ∷ []) scene.line prompt t.line)
-    (both_typed (edge_space w place) (lower_changes scene.lower) (space_typed (eqb place.x w)) (lower_typed scene.lower t.lower))
+    let plain : AllByRecursion (IsTypedChange w) (AllAttributes default_attributes ∷ []) = ((tt, tt), tt) in
+    let prompt : AllByRecursion (IsTypedChange w) (scene.prompt ++ AllAttributes default_attributes ∷ []) = both_typed w scene.prompt (AllAttributes default_attributes ∷ []) t.prompt plain in
+    both_typed w ((scene.prompt ++ AllAttributes default_attributes ∷ []) ++ scene.line) (edge_space w place ++ lower_changes scene.lower)
+    (both_typed w (scene.prompt ++ AllAttributes default_attributes ∷ []) scene.line prompt t.line)
+    (both_typed w (edge_space w place) (lower_changes scene.lower) (space_typed w (eqb place.x w)) (lower_typed w scene.lower t.lower))
 
 -- setting an attribute whose colour is by bytes leaves one
 set_color : (a : AttributeChange) (c : CellAttributes) → IsAttribute a → IsColor c.background → IsColor (with_attribute a c).background
@@ -70,25 +77,25 @@ set_color (attribute.Invisible to) c a h = h
 set_color (attribute.Foreground to) c a h = h
 set_color (attribute.Background to) c a h = a
 
-one_color : (x : ChangeView) (e : Encoder) → IsTypedChange x → IsColor e.attributes.background → IsColor (sent_change x e).next.attributes.background
-one_color (Text text) e a h = subst (λ (c : CellAttributes). IsColor c.background) (sym (keeps_text text e a)) h
-one_color (Attribute change) e a h = set_color change e.attributes a h
-one_color (AllAttributes to) e a h = a.1
-one_color (ClearScreen color) e a h = absurd a
-one_color (ClearToEndOfScreen color) e a h = absurd a
-one_color (CursorPosition x y) e a h = absurd a
+one_color : (w : ℕ) (x : ChangeView) (e : Encoder) → IsTypedChange w x → IsColor e.attributes.background → IsColor (sent_change x e).next.attributes.background
+one_color w (Text text) e a h = subst (λ (c : CellAttributes). IsColor c.background) (sym (keeps_text text e)) h
+one_color w (Attribute change) e a h = set_color change e.attributes a h
+one_color w (AllAttributes to) e a h = a.1
+one_color w (ClearScreen color) e a h = absurd a
+one_color w (ClearToEndOfScreen color) e a h = absurd a
+one_color w (CursorPosition x y) e a h = absurd a
 
-typed_color : (xs : Batch) (x y : _) (e : Encoder) → AllByRecursion IsTypedChange xs → IsColor e.attributes.background
+typed_color : (w : ℕ) (xs : Batch) (x y : _) (e : Encoder) → AllByRecursion (IsTypedChange w) xs → IsColor e.attributes.background
     → IsColor (sent_batch (xs ++ CursorPosition x y ∷ []) e).next.attributes.background
-typed_color [] x y e a h = h
-typed_color (z ∷ xs) x y e a h = typed_color xs x y (sent_change z e).next a.1 (one_color z e a.0 h)
+typed_color w [] x y e a h = h
+typed_color w (z ∷ xs) x y e a h = typed_color w xs x y (sent_change z e).next a.1 (one_color w z e a.0 h)
 
 pub painting_knows_color : PaintingKnowsColor
 painting_knows_color w scene e t =
-    typed_color (shown w scene) _ _ (sent_change (AllAttributes default_attributes) (sent_change (ClearToEndOfScreen default_color) e).next).next (shown_typed w scene t) tt
+    typed_color w (shown w scene) _ _ (sent_change (AllAttributes default_attributes) (sent_change (ClearToEndOfScreen default_color) e).next).next (shown_typed w scene t) tt
 
 module _ {A C : Type 0} (pen : Pen A C) where
-  one_sendable : (h w : ℕ) (x : ChangeView) (ys : Batch) (e : Encoder) (s : PictureOf C) → IsTypedChange x
+  one_sendable : (h w : ℕ) (x : ChangeView) (ys : Batch) (e : Encoder) (s : PictureOf C) → IsTypedChange w x
       → AreSendable pen h w (sent_change x e).next ys (steps_on (Some h) w (change_strokes pen (pen.attributes e.attributes) x) s) → AreSendable pen h w e (x ∷ ys) s
   one_sendable h w (Text text) ys e s a b = (a, b)
   one_sendable h w (Attribute change) ys e s a b = (a, b)
@@ -98,7 +105,7 @@ module _ {A C : Type 0} (pen : Pen A C) where
   one_sendable h w (CursorPosition x y) ys e s a b = absurd a
 
   -- such changes are sendable wherever they come
-  typed_sendable : (h w : ℕ) (xs ys : Batch) (e : Encoder) (s : PictureOf C) → AllByRecursion IsTypedChange xs
+  typed_sendable : (h w : ℕ) (xs ys : Batch) (e : Encoder) (s : PictureOf C) → AllByRecursion (IsTypedChange w) xs
       → ((d : Encoder) (r : PictureOf C) → AreSendable pen h w d ys r) → AreSendable pen h w e (xs ++ ys) s
   typed_sendable h w [] ys e s a b = b e s
   typed_sendable h w (x ∷ xs) ys e s a b = one_sendable h w x (xs ++ ys) e s a.0 (typed_sendable h w xs ys _ _ a.1 b)
@@ -186,13 +193,13 @@ module _ {A C : Type 0} (pen : Pen A C) where
       ∙ keeps_batch h w batch (sent_change change e).next _ carries a.1
 
   pub batches_are_shown : BatchesAreShown pen
-  batches_are_shown h w [] e t s carries some small a shows = shows
-  batches_are_shown h w (batch ∷ more) e t s carries some small a shows =
+  batches_are_shown h w [] e t s carries joins some small a shows = shows
+  batches_are_shown h w (batch ∷ more) e t s carries joins some small a shows =
       let next : Encoder = (sent_batch batch e).next in
       let end : Encoder = (sent_batches more next).next in
       let drawn : PictureOf C = steps_on (Some h) w (strokes_of pen (pen.attributes e.attributes) batch) s in
       let u : EcmaScreen C = receive_all pen h w (sent_batch batch e).bytes t in
-      let rest = batches_are_shown h w more next u drawn carries some small a.1 (batch_is_shown pen h w batch e t s carries some small a.0 shows) in
+      let rest = batches_are_shown h w more next u drawn carries joins some small a.1 (batch_is_shown pen h w batch e t s carries joins some small a.0 shows) in
       subst (λ v. ShowsPicture pen h w end v (play_sized (Some h) false pen w (pen.attributes e.attributes) (sized_at w (batch ∷ more)) s))
       (sym (received pen h w (sent_batch batch e).bytes (sent_batches more next).bytes t))
       (subst (λ kept. ShowsPicture pen h w end (receive_all pen h w (sent_batches more next).bytes u) (play_sized (Some h) false pen w kept (sized_at w more) drawn))

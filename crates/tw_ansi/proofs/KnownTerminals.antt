@@ -1,5 +1,5 @@
 -- What changes leave of what is known of a terminal.
-use Rattle.std.proofs.Common.{◌≡◌, ◌+◌, ℕ, Bool, true, false, ◌&&◌, not, cond, eqb, leb, List, [], ◌∷◌, ap, ◌∙◌, refl}
+use Rattle.std.proofs.Common.{◌≡◌, ◌+◌, ℕ, Bool, true, false, ◌&&◌, not, cond, eqb, leb, List, [], ◌∷◌, ◌∙◌, refl}
 use Rattle.std.specs.Cmp.Lexicographic.{pointwise}
 use Rattle.std.specs.List.{list_all}
 use Rattle.unicode_segmentation.specs.Grapheme.{graphemes}
@@ -24,17 +24,30 @@ cols_of e = e.cols
 
 -- ---- attributes
 
+begins_keeping : (e : Encoder) (width : ℕ) → (sent_beginning e width).next.attributes ≡ e.attributes
+begins_keeping e width = either attributes_of (eqb width 0) _ _ _ refl (either attributes_of (leb (e.x + width) e.cols) _ _ _ refl refl)
+
 -- a plain text changes no attribute
 pub keeps_byte : (e : Encoder) (b : ℕ) → (sent_byte e b).next.attributes ≡ e.attributes
 keeps_byte e b =
-    either attributes_of (eqb b cr) _ _ _ refl (either attributes_of (eqb b lf) _ _ _ (either attributes_of _ _ _ _ refl refl) (either attributes_of (leb (e.x + 1) e.cols) _ _ _ refl refl))
+    either attributes_of (eqb b cr) _ _ _ refl (either attributes_of (eqb b lf) _ _ _ (either attributes_of _ _ _ _ refl refl) (begins_keeping e 1))
 
 keeps_plain : (text : List ℕ) (e : Encoder) → (sent_plain text e).next.attributes ≡ e.attributes
 keeps_plain [] e = refl
 keeps_plain (b ∷ text) e = keeps_plain text (sent_byte e b).next ∙ keeps_byte e b
 
-pub keeps_text : (text : List ℕ) (e : Encoder) → list_all is_plain text ≡ true → (sent_text text e).next.attributes ≡ e.attributes
-keeps_text text e plain = ap (λ t. let x : Sent = cond t (sent_plain text e) (sent_clusters (graphemes true text) e) in x.next.attributes) plain ∙ keeps_plain text e
+pub keeps_cluster : (e : Encoder) (cluster : List ℕ) → (sent_cluster e cluster).next.attributes ≡ e.attributes
+keeps_cluster e cluster =
+    either attributes_of (pointwise eqb cluster (cr ∷ [])) _ _ _ refl
+    (either attributes_of (pointwise eqb cluster (lf ∷ [])) _ _ _ (either attributes_of _ _ _ _ refl refl)
+    (either attributes_of (pointwise eqb cluster (cr ∷ lf ∷ [])) _ _ _ refl (begins_keeping e (cluster_width cluster))))
+
+keeps_clusters : (clusters : List (List ℕ)) (e : Encoder) → (sent_clusters clusters e).next.attributes ≡ e.attributes
+keeps_clusters [] e = refl
+keeps_clusters (cluster ∷ more) e = keeps_clusters more (sent_cluster e cluster).next ∙ keeps_cluster e cluster
+
+pub keeps_text : (text : List ℕ) (e : Encoder) → (sent_text text e).next.attributes ≡ e.attributes
+keeps_text text e = either attributes_of (list_all is_plain text) _ _ _ (keeps_plain text e) (keeps_clusters (graphemes true text) e)
 
 -- nor does a clearing
 pub clear_keeps : (color : ColorAttribute) (e : Encoder) → (sent_change (ClearToEndOfScreen color) e).next.attributes ≡ e.attributes
@@ -43,15 +56,15 @@ clear_keeps color e = either attributes_of (leb e.cols e.x) _ _ _ refl (either a
 -- ---- columns
 
 begins_in : (e : Encoder) (width : ℕ) → (sent_beginning e width).next.cols ≡ e.cols
-begins_in e width = either cols_of (leb (e.x + width) e.cols) _ _ _ refl refl
+begins_in e width = either cols_of (eqb width 0) _ _ _ refl (either cols_of (leb (e.x + width) e.cols) _ _ _ refl refl)
 
 feeds_in : (e : Encoder) → (sent_feed e).next.cols ≡ e.cols
 feeds_in e = either cols_of (leb e.cols e.x && not e.parted) _ _ _ refl refl
 
-byte_in : (e : Encoder) (b : ℕ) → (sent_byte e b).next.cols ≡ e.cols
+pub byte_in : (e : Encoder) (b : ℕ) → (sent_byte e b).next.cols ≡ e.cols
 byte_in e b = either cols_of (eqb b cr) _ _ _ refl (either cols_of (eqb b lf) _ _ _ (feeds_in e) (begins_in e 1))
 
-cluster_in : (e : Encoder) (cluster : List ℕ) → (sent_cluster e cluster).next.cols ≡ e.cols
+pub cluster_in : (e : Encoder) (cluster : List ℕ) → (sent_cluster e cluster).next.cols ≡ e.cols
 cluster_in e cluster =
     either cols_of (pointwise eqb cluster (cr ∷ [])) _ _ _ refl
     (either cols_of (pointwise eqb cluster (lf ∷ [])) _ _ _ (feeds_in e)

@@ -21,3 +21,5 @@ pub mod EcmaTexts
 pub mod EcmaMoves
 pub mod EcmaBatches
 pub mod EcmaPaintings
+pub mod JoinedMarks
+pub mod WorkedBytes

@@ -1,6 +1,5 @@
 -- What a terminal shows that is sent the bytes of a batch.
 use Rattle.std.specs.Prelude.{◌≡◌, ◌≤◌, ◌<◌, ◌+◌, ◌^◌, ℕ, ltb, pos, negsuc, true, false, if◌then◌else◌, Some, [], ◌∷◌, ⊤}
-use Rattle.std.specs.List.{list_all}
 use Rattle.laws_screens.specs.Strokes.{PictureOf, steps_on}
 use Rattle.tw_surface.specs.declared.cell.AttributeChange.{AttributeChange}
 use Rattle.tw_surface.specs.declared.cell.CellAttributes.{CellAttributes}
@@ -9,7 +8,6 @@ use Rattle.tw_surface.specs.declared.change.Position.TheVariants.{Absolute, Rela
 use Rattle.tw_surface.specs.ChangeView.{ChangeView, Batch}
 use Rattle.tw_surface.specs.ChangeView.{Attribute, AllAttributes, Text, ClearScreen, ClearToEndOfScreen, CursorPosition}
 use Rattle.tw_surface.specs.Attributes.{with_attribute}
-use Rattle.tw_surface.specs.Characters.{is_plain}
 use Rattle.tw_surface.specs.Defaults.{default_attributes}
 use Rattle.laws_screens.specs.Pens.{Pen, change_strokes, strokes_of, kept_after}
 use Rattle.laws_screens.specs.Screens.{blank_of}
@@ -19,7 +17,7 @@ use Rattle.tw_ansi.specs.Encoding.{first_known, sent_change, sent_batch, terse_b
 use Rattle.tw_ansi.specs.EcmaScreen.{EcmaScreen, receive_all}
 use Rattle.tw_ansi.specs.EcmaScreen as terminal
 use Rattle.tw_ansi.specs.EcmaLaws.{IsColor, IsAttribute}
-use Rattle.tw_ansi.specs.EcmaTexts.{ShowsPicture}
+use Rattle.tw_ansi.specs.EcmaTexts.{ShowsPicture, is_sent, JoinsMarks}
 
 -- what a pen keeps of attributes follows their changes
 abbrev pub CarriesAttributes : {A C : Type 0} → Pen A C → Type 0
@@ -32,12 +30,12 @@ IsReached h (Absolute row) = (row < h) × (row ≤ most_rows)
 IsReached h (Relative (pos n)) = n ≤ most_rows
 IsReached h (Relative (negsuc n)) = n < most_rows
 
--- a change whose bytes do at a terminal of h rows and w columns what the change draws: any but a text that is not
--- plain, a move to a row that is not reached, and a clearing from after the last column of the last row on; the
--- colours, and the one that is known to be set after the text where it clears, are by bytes, and a clearing leaves
--- blanks
+-- a change whose bytes do at a terminal of h rows and w columns what the change draws: any but a text that is
+-- not shown as it is measured, a move to a row that is not reached, and a clearing from after the last column of the last
+-- row on; the colours, and the one that is known to be set after the text where it clears, are by bytes, and a clearing
+-- leaves blanks
 abbrev pub IsSendable : {A C : Type 0} → Pen A C → ℕ → ℕ → Encoder → ChangeView → PictureOf C → Type 0
-IsSendable pen h w e (Text text) s = list_all is_plain text ≡ true
+IsSendable pen h w e (Text text) s = is_sent w text ≡ true
 IsSendable pen h w e (Attribute change) s = IsAttribute change
 IsSendable pen h w e (AllAttributes to) s = IsColor to.foreground × IsColor to.background
 IsSendable pen h w e (ClearScreen color) s = IsColor color × IsColor e.attributes.background × (pen.paper color ≡ blank_of pen)
@@ -59,7 +57,7 @@ FirstIsShown {A} {C} pen = (h w : ℕ) (t : EcmaScreen C)
 -- a terminal that shows a picture, and is sent the bytes of a change, shows the picture on which the change was drawn
 abbrev pub ChangeIsShown : {A C : Type 0} → Pen A C → Type 0
 ChangeIsShown {A} {C} pen = (h w : ℕ) (change : ChangeView) (e : Encoder) (t : EcmaScreen C) (s : PictureOf C)
-    → 0 < w → w < 2 ^ 64 → IsSendable pen h w e change s → ShowsPicture pen h w e t s
+    → JoinsMarks pen → 0 < w → w < 2 ^ 64 → IsSendable pen h w e change s → ShowsPicture pen h w e t s
     → ShowsPicture pen h w (sent_change change e).next (receive_all pen h w (sent_change change e).bytes t)
     (steps_on (Some h) w (change_strokes pen (pen.attributes e.attributes) change) s)
 
@@ -73,7 +71,7 @@ AreSendable pen h w e (change ∷ changes) s =
 -- a terminal that shows a picture, and is sent the bytes of a batch, shows the picture on which the batch was drawn
 abbrev pub BatchIsShown : {A C : Type 0} → Pen A C → Type 0
 BatchIsShown {A} {C} pen = (h w : ℕ) (batch : Batch) (e : Encoder) (t : EcmaScreen C) (s : PictureOf C)
-    → CarriesAttributes pen → 0 < w → w < 2 ^ 64 → AreSendable pen h w e batch s → ShowsPicture pen h w e t s
+    → CarriesAttributes pen → JoinsMarks pen → 0 < w → w < 2 ^ 64 → AreSendable pen h w e batch s → ShowsPicture pen h w e t s
     → ShowsPicture pen h w (sent_batch batch e).next (receive_all pen h w (sent_batch batch e).bytes t)
     (steps_on (Some h) w (strokes_of pen (pen.attributes e.attributes) batch) s)
 
@@ -91,7 +89,7 @@ AllStayInRows pen h w a (change ∷ changes) s =
 -- so does one that is sent the bytes of a batch whose moves take few bytes, where none of them goes down out of sight
 abbrev pub TerseBatchIsShown : {A C : Type 0} → Pen A C → Type 0
 TerseBatchIsShown {A} {C} pen = (h w : ℕ) (batch : Batch) (e : Encoder) (t : EcmaScreen C) (s : PictureOf C)
-    → CarriesAttributes pen → 0 < w → w < 2 ^ 64 → AreSendable pen h w e batch s → AllStayInRows pen h w (pen.attributes e.attributes) batch s
+    → CarriesAttributes pen → JoinsMarks pen → 0 < w → w < 2 ^ 64 → AreSendable pen h w e batch s → AllStayInRows pen h w (pen.attributes e.attributes) batch s
     → ShowsPicture pen h w e t s
     → ShowsPicture pen h w (terse_batch batch e).next (receive_all pen h w (terse_batch batch e).bytes t)
     (steps_on (Some h) w (strokes_of pen (pen.attributes e.attributes) batch) s)

@@ -63,10 +63,12 @@ sent_feed e =
 abbrev pub sent_return_feed : Encoder → Sent
 sent_return_feed e = record { bytes = cr ∷ lf ∷ []; next = at_column 0 e }
 
--- so many columns begin in the row where they fit, and else in the next one, to which a waiting terminal goes by itself
+-- width columns begin in the row if they fit, and else in the next one, to which a waiting terminal goes by itself;
+-- of none the encoder leaves what it knows
 abbrev pub sent_beginning : Encoder → ℕ → Sent
 sent_beginning e width =
-    if leb (e.x + width) e.cols then sends [] (at_column (e.x + width) e)
+    if eqb width 0 then sends [] e
+    else if leb (e.x + width) e.cols then sends [] (at_column (e.x + width) e)
     else record { bytes = if e.parted then cr ∷ lf ∷ [] else []; next = at_column width e }
 
 -- what is shown in so many columns

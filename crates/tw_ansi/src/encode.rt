@@ -261,13 +261,17 @@ impl Encoder {
         go_to_column(self.cols.saturating_sub(1), out)
     }
 
-    /// Makes room for `width` columns: in the row where they fit, and else in the next one.
+    /// Makes room for `width` columns: in the row if they fit, else in the next one. A mark takes none, and leaves the
+    /// cursor where it stands.
     fn begin_columns(&mut self, width: usize, out: &mut String) -> Result<(), AllocError>
         ensures bytes { OnOk result (string_bytes out.new
             ≡ string_bytes out.old ++ (sent_beginning self.old width).bytes) }
         ensures next { OnOk result (self.new ≡ (sent_beginning self.old width).next) }
         ensures err { OnErr result (ExtendsBytes (string_bytes out.old) (string_bytes out.new)) }
     {
+        if width == 0 {
+            return Ok(());
+        }
         if self.x <= self.cols && width <= self.cols - self.x {
             self.stand_at(self.x + width);
             return Ok(());

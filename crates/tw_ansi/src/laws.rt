@@ -3,9 +3,9 @@
 ghost use Rattle.tw_input.specs.Equality.{ComparesValues};
 ghost use Rattle.tw_ansi.specs.Renditions.{AttributesByNumber};
 ghost use Rattle.laws_screens.specs.Pens.{Pen};
-ghost use Rattle.laws_screens.specs.StyledCells.{characters, styled};
+ghost use Rattle.laws_screens.specs.StyledCells.{characters, clusters, styled};
 ghost use Rattle.tw_ansi.specs.EcmaLaws.{AttributeIsSelected, AttributesAreSelected, ColumnsAreReached, AlongRowsAreReached, RowsAboveAreReached, RowsBelowAreReached, ClearsBelow, ClearsRows, ClearsAll};
-ghost use Rattle.tw_ansi.specs.EcmaTexts.{PlainTextIsShown};
+ghost use Rattle.tw_ansi.specs.EcmaTexts.{JoinsMarks, TextIsShown};
 ghost use Rattle.tw_ansi.specs.EcmaBatches.{CarriesAttributes, FirstIsShown, ChangeIsShown, BatchIsShown, TerseBatchIsShown};
 ghost use Rattle.tw_ansi.specs.EcmaPaintings.{PaintingIsSendable, RepaintingIsSendable, ClosingIsSendable, PaintingKnowsColor, RunIsSendable, BatchesAreShown};
 ghost use Rattle.tw_ansi.specs.KeyLaws.{StaysFound, TakesBytes, EndsWithToken, PrintableKeys, CharacterKeys, AltCharacterKeys, EscapeKey, EscapePair, EscapesAtTheEnd, AltLetterKeys, AltKeys, AltOpenings, ControlKeys, ControlLetters, ApplicationKeys, LetterKeys, HeldLetterKeys, NumberKeys, HeldNumberKeys, BackTab, CursorReports, SizeReports, PastedTexts, UnknownSequences, MouseReports, OpenMouseReports, EndedStrings, CutStrings, OpenStrings, LostBytes, LoneBytes, CutCharacters, WaitsForCharacter};
@@ -105,11 +105,12 @@ pub fn sequences<A, C>()
     ensures all { (pen : Pen A C) → ClearsAll pen }
 {}
 
-/// A terminal after ECMA-48 that shows a picture of h rows, and is sent the bytes of a plain text, shows the picture on
-/// which that text was drawn under the attributes that are set, scrolled as it needs.
-#[tactic(auto, using(crate::proofs::EcmaTexts::plain_text_is_shown))]
+/// A terminal after ECMA-48 that shows a picture of h rows, and is sent the bytes of a text, shows the picture on which
+/// that text was drawn under the attributes that are set, scrolled as it needs: if each cluster is one character and its
+/// marks, in as many columns as are measured.
+#[tactic(auto, using(crate::proofs::EcmaTexts::text_is_shown))]
 pub fn texts<A, C>()
-    ensures { (pen : Pen A C) → PlainTextIsShown pen }
+    ensures { (pen : Pen A C) → TextIsShown pen }
 {}
 
 /// A terminal after ECMA-48 with default attributes whose cursor stands in column 0 shows its own cells to a new
@@ -124,15 +125,16 @@ pub fn batches<A, C>()
     ensures terse { (pen : Pen A C) → TerseBatchIsShown pen }
 {}
 
-/// What is kept of attributes follows their changes, where characters alone are shown and where they are shown under
-/// their attributes.
+/// The laws of texts and batches speak of these pens: what they keep of attributes follows their changes, and a mark
+/// that joins a cell makes it that of the longer cluster.
 pub fn pens()
-    ensures characters { CarriesAttributes characters }
-    ensures styled { CarriesAttributes styled }
+    ensures clusters { CarriesAttributes clusters × JoinsMarks clusters }
+    ensures characters { CarriesAttributes characters × JoinsMarks characters }
+    ensures styled { CarriesAttributes styled × JoinsMarks styled }
 {}
 
-/// A painting of plain texts and of colours by bytes is one whose bytes do what it does, alone where the cursor does
-/// not stand after the last column, and else after the move to its first row; so is the closing batch. So are all
+/// A painting of such texts and of colours by bytes is one whose bytes do what it does, alone where the cursor does not
+/// stand after the last column, and else after the move to its first row; so is the closing batch. So are all
 /// batches of a run that paints such scenes, and a terminal that is sent their bytes shows what they leave on the model
 /// screen.
 #[tactic(auto, using(crate::proofs::EcmaPaintings::painting_is_sendable, crate::proofs::EcmaPaintings::repainting_is_sendable, crate::proofs::EcmaPaintings::closing_is_sendable, crate::proofs::EcmaPaintings::painting_knows_color, crate::proofs::EcmaPaintings::run_is_sendable, crate::proofs::EcmaPaintings::batches_are_shown))]

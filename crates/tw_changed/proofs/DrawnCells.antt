@@ -6,6 +6,7 @@ use Rattle.std.proofs.lemmas.List.{get_or-set_same, get_or-set_other, get_or-tak
 use Rattle.std.proofs.Math.ListN.{get_or-eq_default}
 use Rattle.std.proofs.Math.Seq.{get_or-append_seam}
 use Rattle.std.proofs.lemmas.Nat.{mul-le}
+use Rattle.laws_screens.proofs.LineOfCells.{put-one}
 use Rattle.laws_screens.specs.Strokes.{PictureOf, Stroke, put_in, cleared_in, put, steps}
 use Rattle.laws_screens.specs.Strokes.Stroke.{ClearBehind}
 use Rattle.laws_screens.proofs.LineOfCells.{same_cell, next_row, behind_cell, steps-append}
@@ -97,8 +98,8 @@ pub put_shows : (old mid : StyledView) (place new_row new_col : ℕ) (x : Styled
     → 0 < old.width → old.col ≤ old.width → place ≡ old.row * old.width + old.col
     → new_row ≡ (if eqb old.col old.width then old.row + 1 else old.row) → new_col ≡ (if eqb old.col old.width then 0 else old.col)
     → mid.width ≡ old.width → IsPutAt place x old mid → ShowsStyled old s
-    → ShowsStyled (record mid { row = new_row; col = new_col + 1 }) (put old.width x s)
-put_shows old mid place new_row new_col x s some most at is_row is_col width written h = rw (ap (λ i. eqb i old.width) h.col) (by_wrap (eqb old.col old.width) refl is_row is_col)
+    → ShowsStyled (record mid { row = new_row; col = new_col + 1 }) (put old.width (x ∷ []) s)
+put_shows old mid place new_row new_col x s some most at is_row is_col width written h = rw (put-one old.width x s (omega (arith, h.col, most)), ap (λ i. eqb i old.width) h.col) (by_wrap (eqb old.col old.width) refl is_row is_col)
   where
     put_there : (i j : ℕ) → j < old.width → i * old.width + j ≡ place → (r c : ℕ) → c < mid.width
         → put_in s.cell i j x r c ≡ styled_at mid (r * mid.width + c)

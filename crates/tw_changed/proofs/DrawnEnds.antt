@@ -3,6 +3,7 @@ use Rattle.std.proofs.Common.{◌≡◌, ◌<◌, ◌≤◌, ◌+◌, ◌-◌, �
 use Rattle.std.proofs.Math.Nat.{mod-lt, div-lt_iff_lt-mul}
 use Rattle.std.proofs.lemmas.Nat.{div-mul-add, mod-mul-add, mul-le}
 use Rattle.std.proofs.lemmas.Bool.{cases_eq, cases_lt, eq-eqb, ne_eqb, lt-ltb, le-ltb, ltb-true, leb-true, leb-false}
+use Rattle.laws_screens.specs.Glyphs.{glyphs}
 use Rattle.laws_screens.specs.Strokes.{PictureOf, cleared_in}
 use Rattle.laws_screens.specs.Pens.{strokes_of}
 use Rattle.laws_screens.specs.StyledCells.{StyledCell, styled}
@@ -151,6 +152,7 @@ module _ (h w : ℕ) where
   -- a line feed
   sinks_once : (s : ℕ) (hand : Hand) (p : PictureOf StyledCell) → hand.row + 1 < h → p.row < h → Holds s hand p
       → Sinks s (s - (s + hand.row + 2 - h)) (hand.row + 1) hand.col hand (fed_once hand) p
+  unfolding glyphs
   sinks_once s hand p low inside holds = record {
     leads = record {
       kept = refl;

@@ -191,10 +191,10 @@ module _ (h w : ℕ) where
   -- ---- characters
 
   -- a printable character is put
-  pub put_stroke : (a : CellAttributes) (ch : ℕ) → is_printable ch ≡ true → char_stroke styled a ch ≡ Put (record { ch = ch; attributes = a })
+  pub put_stroke : (a : CellAttributes) (ch : ℕ) → is_printable ch ≡ true → char_stroke styled a ch ≡ Put (record { ch = ch; attributes = a } ∷ [])
   put_stroke a ch printable =
       let low : 32 ≤ ch = leb-true 32 ch (and_parts _ _ printable).0 in
-      let cell : Stroke StyledCell = Put (record { ch = ch; attributes = a }) in
+      let cell : Stroke StyledCell = Put (record { ch = ch; attributes = a } ∷ []) in
       let feed : Stroke StyledCell = cond (eqb ch 10) Feed cell in
       ap (λ x. cond x Return feed) (ne_eqb ch 13 (λ e. omega arith)) ∙ ap (λ x. cond x Feed cell) (ne_eqb ch 10 (λ e. omega arith))
 

@@ -17,6 +17,7 @@ use Rattle.tw_ansi.specs.Sequences.{most_rows}
 use Rattle.tw_ansi.specs.Encoding.{sent_change}
 use Rattle.tw_ansi.specs.EcmaBatches.{IsReached, IsSendable, AreSendable}
 use Rattle.tw_changed.specs.Differences.{differ_in, first_changed, last_changed}
+use Rattle.tw_ansi.proofs.EcmaPaintings.{plain_sent}
 use Rattle.tw_changed.specs.declared.hand.Hand.{Hand}
 use Rattle.tw_changed.specs.Redrawings.{Redrawing, at_ease, redraw_then, led_to, under, indexed, typed_in_cell, cell_redrawn, cells_redrawn, span_redrawn, row_redrawn, rows_redrawn, fed_once, fed, lowest_reached, sunk_to, handed_to, lowered}
 use Rattle.tw_changed.specs.ChangedScreens.{AreByBytes, IsInk}
@@ -33,7 +34,7 @@ IsEasy (ClearToEndOfScreen color) = ⊥
 IsEasy (CursorPosition x y) = (h : ℕ) → IsReached h y
 
 easy_sendable : (h w : ℕ) (x : ChangeView) (e : Encoder) (p : PictureOf StyledCell) → IsEasy x → IsSendable styled h w e x p
-easy_sendable h w (Text text) e p a = a
+easy_sendable h w (Text text) e p a = plain_sent w text a
 easy_sendable h w (Attribute change) e p a = absurd a
 easy_sendable h w (AllAttributes to) e p a = a
 easy_sendable h w (ClearScreen color) e p a = absurd a

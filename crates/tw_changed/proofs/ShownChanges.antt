@@ -7,6 +7,7 @@ use Rattle.tw_surface.specs.ChangeView.{Batch}
 use Rattle.tw_surface.specs.ChangeView.{AllAttributes}
 use Rattle.tw_surface.specs.contracts.cell.CellAttributesPartialEq.TheImpl.{ghosts as attributes}
 use Rattle.tw_surface.proofs.EqualityLemmas.{attributes_equal}
+use Rattle.tw_ansi.proofs.JoinedMarks.{styled_join}
 use Rattle.laws_screens.specs.Strokes.{PictureOf, steps_on}
 use Rattle.laws_screens.specs.Pens.{change_strokes, strokes_of, kept_after_all}
 use Rattle.laws_screens.specs.StyledCells.{StyledCell, styled}
@@ -63,7 +64,7 @@ module _ (h w : ℕ) where
       → kept_after_all styled hand.attributes d.changes ≡ d.hand.attributes → ShowsPicture styled h w e t p → Sends hand d e t p
   sends hand d e t p some small fits stays same kept a = record {
     shown = subst (λ (c : CellAttributes). ShowsPicture styled h w (terse_batch d.changes e).next (receive_all styled h w (terse_batch d.changes e).bytes t) (steps_on (Some h) w (strokes_of styled c d.changes) p)) (sym same)
-        (terse_batch_is_shown styled h w d.changes e t p follows some small fits (subst (λ (c : CellAttributes). AllStayInRows styled h w c d.changes p) same stays) a);
+        (terse_batch_is_shown styled h w d.changes e t p follows styled_join some small fits (subst (λ (c : CellAttributes). AllStayInRows styled h w c d.changes p) same stays) a);
     attributes = sym kept ∙ ap (λ c. kept_after_all styled c d.changes) same ∙ keeps_all d.changes e p fits;
   }
 

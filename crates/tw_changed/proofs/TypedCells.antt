@@ -1,10 +1,13 @@
 -- A picture on which cells are typed one after the other, from the cursor on.
 use Rattle.std.proofs.Common.{◌≡◌, ◌<◌, ◌≤◌, ◌+◌, ◌-◌, ◌*◌, ◌/◌, ◌%◌, ℕ, zero, suc, true, cond, eqb, Some, ap, subst, ◌∙◌, sym, refl, inl, inr, arith}
 use Rattle.std.proofs.Math.Nat.{mod-lt, div-lt_iff_lt-mul}
-use Rattle.std.proofs.lemmas.Bool.{cases_eq, cases_lt, eq-eqb, ne_eqb}
+use Rattle.std.specs.Prelude.{[], ◌∷◌, ◌++◌}
+use Rattle.std.proofs.lemmas.Bool.{cases_eq, cases_lt, eq-eqb, ne_eqb, and_from}
 use Rattle.std.proofs.lemmas.Nat.{div-mul-add, mod-mul-add, mul-le, div-add-mod'}
 use Rattle.tw_surface.specs.Characters.{is_printable}
-use Rattle.laws_screens.specs.Strokes.{PictureOf, put_in, step, scrolled}
+use Rattle.laws_screens.proofs.LineOfCells.{put-one}
+use Rattle.laws_screens.proofs.PlainGlyphs.{plain_strokes, plain_from_printable}
+use Rattle.laws_screens.specs.Strokes.{PictureOf, put_in, step, steps_on, scrolled}
 use Rattle.laws_screens.specs.Pens.{strokes_of}
 use Rattle.laws_screens.specs.StyledCells.{StyledCell, styled}
 use Rattle.tw_changed.specs.declared.hand.Hand.{Hand}
@@ -51,7 +54,10 @@ module _ (h w : ℕ) (some : 0 < w) where
     wrapped = record { cell = put_in p.cell (p.row + 1) 0 inked; row = p.row + 1; col = 1 }
 
     put_is : redrawn_on h w hand (typed_in_cell w k ch hand) p ≡ scrolled (Some h) (cond (eqb p.col w) wrapped (put_here h w inked p))
-    put_is = ap (λ stroke. scrolled (Some h) (step w stroke p)) (put_stroke h w hand.attributes ch printable)
+    put_is =
+        ap (λ l. steps_on (Some h) w (l ++ []) p) (plain_strokes styled hand.attributes (ch ∷ []) (plain_from_printable (ch ∷ []) (and_from (is_printable ch) true printable refl)))
+        ∙ ap (λ stroke. scrolled (Some h) (step w stroke p)) (put_stroke h w hand.attributes ch printable)
+        ∙ ap (scrolled (Some h)) (put-one w inked p (omega (arith, holds.col, edge)))
 
     typed_inside : hand.col < w → TypedAt s k inked hand (typed_in_cell w k ch hand) p
     typed_inside left =

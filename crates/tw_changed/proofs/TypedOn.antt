@@ -1,13 +1,14 @@
 -- Printable characters that are typed behind all cells of a screen.
-use Rattle.std.proofs.Common.{◌≡◌, ℕ, ◌+◌, ◌-◌, ◌*◌, ◌/◌, ◌%◌, ◌<◌, ◌≤◌, Bool, true, false, eqb, leb, List, [], ◌∷◌, ◌++◌, length, map, refl, sym, ap, ◌∙◌, subst, append_assoc, append-nil, arith, if◌then◌else◌}
+use Rattle.std.proofs.Common.{◌≡◌, ℕ, ◌+◌, ◌-◌, ◌*◌, ◌/◌, ◌%◌, ◌<◌, ◌≤◌, Bool, true, false, eqb, List, [], ◌∷◌, ◌++◌, length, map, refl, sym, ap, ◌∙◌, subst, append_assoc, append-nil, arith, if◌then◌else◌}
 use Rattle.std.specs.List.{list_all}
 use Rattle.std.specs.Str.{IsAscii, chars}
 use Rattle.std.proofs.lemmas.Str.{chars-IsAscii}
 use Rattle.std.proofs.lemmas.Str.Ascii.{IsAscii-cons, IsAscii-nil}
-use Rattle.std.proofs.lemmas.Bool.{and_parts, eqb-true, eqb-false, leb-true}
+use Rattle.std.proofs.lemmas.Bool.{and_parts, eqb-true, eqb-false}
+use Rattle.std.proofs.lemmas.Bool.Decides.{nat_tests}
 use Rattle.std.proofs.lemmas.List.{length-append, length-map}
 use Rattle.std.proofs.lemmas.Nat.{div-mul-add, mod-mul-add}
-use Rattle.tw_surface.specs.Characters.{is_printable}
+use Rattle.tw_surface.specs.Characters.{is_plain, is_printable}
 use Rattle.laws_screens.specs.Strokes.{PictureOf, steps}
 use Rattle.laws_screens.specs.Pens.{char_stroke}
 use Rattle.laws_screens.specs.StyledCells.{StyledCell, styled}
@@ -108,13 +109,15 @@ type_shows (ch ∷ text) s p last h shows printable some is =
     ∙ ap (λ k. record s { row = last / s.width; col = k; cells = s.cells ++ map (cell_under s.kept) (ch ∷ text) }) (omega (arith, there.1, col)))
     (typed_all-shows (ch ∷ text) s p h shows printable)
 
--- printable characters are their bytes
-pub printable_chars : (text : List ℕ) → list_all is_printable text ≡ true → chars text ≡ text
-printable_chars text h = chars-IsAscii text (ascii text h)
+-- the characters of a plain text are its bytes
+pub plain_chars : (text : List ℕ) → list_all is_plain text ≡ true → chars text ≡ text
+plain_chars text h = chars-IsAscii text (ascii text h)
   where
-    ascii : (text : List ℕ) → list_all is_printable text ≡ true → IsAscii text
+    low : (ch : ℕ) → is_plain ch ≡ true → ch < 128
+    low ch h = grind (arith, nat_tests, h)
+
+    ascii : (text : List ℕ) → list_all is_plain text ≡ true → IsAscii text
     ascii [] h = IsAscii-nil
     ascii (ch ∷ text) h =
-        let both = and_parts (is_printable ch) (list_all is_printable text) h in
-        let most : ch ≤ 126 = leb-true ch 126 (and_parts (leb 32 ch) (leb ch 126) both.0).1 in
-        IsAscii-cons ch text (omega (arith, most)) (ascii text both.1)
+        let both = and_parts (is_plain ch) (list_all is_plain text) h in
+        IsAscii-cons ch text (low ch both.0) (ascii text both.1)

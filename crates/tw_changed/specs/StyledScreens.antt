@@ -1,13 +1,14 @@
 -- What a screen of characters and attributes holds, and the pictures that it shows.
-use Rattle.std.specs.Prelude.{ℕ, ◌≡◌, ◌+◌, ◌-◌, ◌*◌, drop, ◌<◌, ◌≤◌, eqb, if◌then◌else◌, Bool, true, max, Option, IfSome, option_map, List, [], ◌++◌, chars, map, slice_index_or}
+use Rattle.std.specs.Prelude.{ℕ, ◌≡◌, ◌+◌, ◌-◌, ◌*◌, drop, ◌<◌, ◌≤◌, eqb, if◌then◌else◌, Bool, true, max, Option, IfSome, option_map, List, [], ◌∷◌, ◌++◌, chars, map, slice_index_or}
 use Rattle.laws_screens.specs.Strokes.{PictureOf, Stroke, steps}
 use Rattle.tw_surface.specs.declared.cell.CellAttributes.{CellAttributes}
 use Rattle.tw_surface.specs.declared.color.ColorAttribute.{ColorAttribute}
 use Rattle.tw_surface.specs.ChangeView.{ChangeView}
-use Rattle.tw_surface.specs.ChangeView.{Text, ClearToEndOfScreen, CursorPosition}
+use Rattle.tw_surface.specs.ChangeView.{Attribute, AllAttributes, Text, ClearScreen, ClearToEndOfScreen, CursorPosition}
 use Rattle.tw_surface.specs.Defaults.{default_attributes, default_color}
 use Rattle.tw_surface.specs.Pictures.{blank}
-use Rattle.laws_screens.specs.Pens.{char_stroke}
+use Rattle.laws_screens.specs.Pens.{char_stroke, led}
+use Rattle.laws_screens.specs.Strokes.Stroke.{Clear, ClearBehind, Move}
 use Rattle.laws_screens.specs.StyledCells.{StyledCell, styled}
 use Rattle.tw_changed.specs.declared.cell.ScreenCell.{ScreenCell}
 
@@ -82,6 +83,15 @@ pub record ShowsSame (old new : StyledView) : Type 0 where
   pub cells : (place : ℕ) → styled_at new place ≡ styled_at old place
   pub row : new.row ≡ old.row
   pub col : new.col ≡ old.col
+
+-- the strokes of a change, a text by its characters
+abbrev pub screen_strokes : CellAttributes → ChangeView → List (Stroke StyledCell)
+screen_strokes a (Text text) = map (char_stroke styled a) (chars text)
+screen_strokes a (Attribute x) = []
+screen_strokes a (AllAttributes x) = []
+screen_strokes a (ClearScreen color) = Clear (styled.paper color) ∷ []
+screen_strokes a (ClearToEndOfScreen color) = ClearBehind (styled.paper color) ∷ []
+screen_strokes a (CursorPosition x y) = Move (led y) (led x) ∷ []
 
 -- a cell was put at a place of the line of all rows
 pub record IsPutAt (place : ℕ) (cell : StyledCell) (old new : StyledView) : Type 0 where

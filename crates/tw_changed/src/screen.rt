@@ -4,12 +4,11 @@ ghost use Rattle.std.specs.Prelude.{◌≡◌, ℕ, ◌+◌, ◌*◌, ◌<◌, �
 ghost use Rattle.std.specs.List.{list_all};
 ghost use Rattle.tw_surface.specs.Characters.{is_printable};
 ghost use Rattle.tw_surface.specs.ChangeView.{change_view};
-ghost use Rattle.tw_surface.specs.Simple.{spelled_change};
 ghost use Rattle.tw_surface.specs.Defaults.{default_color};
 ghost use Rattle.laws_screens.specs.Strokes.Stroke.{Clear, ClearBehind, Move, Put};
-ghost use Rattle.laws_screens.specs.Pens.{change_strokes, char_stroke, kept_after, led};
+ghost use Rattle.laws_screens.specs.Pens.{char_stroke, kept_after, led};
 ghost use Rattle.laws_screens.specs.StyledCells.{styled};
-ghost use Rattle.tw_changed.specs.StyledScreens.{AreDrawn, IsPlainFrom, IsPutAt, IsRefusedAt, IsSameBut, IsSure, ShowsSame, WritesBeginning, at_row, blank_styled, cell_under, paper_cell, plain_behind, styled_cell, without_rows};
+ghost use Rattle.tw_changed.specs.StyledScreens.{AreDrawn, IsPlainFrom, IsPutAt, IsRefusedAt, IsSameBut, IsSure, ShowsSame, WritesBeginning, at_row, blank_styled, cell_under, paper_cell, plain_behind, screen_strokes, styled_cell, without_rows};
 
 use crate::cell::ScreenCell;
 use std::alloc::{AllocError, Global};
@@ -209,7 +208,7 @@ impl StyledScreen {
     pub fn apply(&mut self, change: &Change) -> Result<(), ScreenFault>
         ensures width { self.new.width ≡ self.old.width }
         ensures played { OnOk result (AreDrawn self.old
-            (change_strokes styled self.old.kept (spelled_change (change_view change.now)))
+            (screen_strokes self.old.kept (change_view change.now))
             self.new) }
         ensures kept { OnOk result (self.new.kept
             ≡ kept_after styled self.old.kept (change_view change.now)) }
@@ -293,7 +292,7 @@ impl StyledScreen {
     fn put(&mut self, character: char) -> Result<(), ScreenFault>
         ensures same { IsSameBut self.old self.new }
         ensures shown { OnOk result (AreDrawn self.old
-            (Put (styled_cell record { character = character; attributes = self.old.kept }) ∷ [])
+            (Put (styled_cell record { character = character; attributes = self.old.kept } ∷ []) ∷ [])
             self.new) }
         ensures refused { OnErr result (AreDrawn self.old [] self.new) }
     {

@@ -13,11 +13,11 @@ use Rattle.tw_surface.specs.declared.measure.Piece.TheVariants.{Wide}
 use Rattle.tw_surface.specs.Characters.{is_printable, is_plain}
 use Rattle.tw_surface.specs.Extents.{place_of, reach_all}
 use Rattle.tw_surface.specs.Paintings.{place_at}
-use Rattle.tw_surface.specs.Places.{Place, next_place, end_of_pieces, places_after, pieces, cluster_piece, plain_piece}
+use Rattle.tw_surface.specs.Places.{Place, next_place, end_of_pieces, places_after, pieces, cluster_piece, plain_piece, begins_at}
 use Rattle.tw_surface.proofs.DrawingLemmas.{place_of-pieces}
 use Rattle.tw_surface.proofs.RowLemmas.{plain_from_printable, printable_pieces}
-use Rattle.tw_surface.specs.Width.{column_width}
-use Rattle.tw_hosts.specs.Settling.{settled_pieces, place_after_text, needed, needed_by_text, begins_at, rows_between, columns_between, line_start, settled_place, settled_column, is_settled, char_columns, character_piece, character_pieces, is_parted, cell_pieces, pieces_left, PrintableIsUnchanged, goes_on, ColumnLeadsThere, CursorIsSettled, PrintableIsPlain, NoOtherColumn, SomeColumn, WholeIsMeasured}
+use Rattle.tw_surface.specs.Width.{column_width, char_columns}
+use Rattle.tw_hosts.specs.Settling.{settled_pieces, place_after_text, needed, needed_by_text, rows_between, columns_between, line_start, settled_place, settled_column, is_settled, character_piece, character_pieces, is_parted, cell_pieces, pieces_left, PrintableIsUnchanged, goes_on, ColumnLeadsThere, CursorIsSettled, PrintableIsPlain, NoOtherColumn, SomeColumn, WholeIsMeasured}
 use Rattle.tw_host.specs.HostRules.{HostRules}
 use Rattle.std.specs.Char.{encode_utf8}
 use Rattle.std.specs.Str.{chars, IsUtf8}

@@ -1,27 +1,22 @@
 -- The column that a host answers so that the editor's division finds the cell in which the text goes on.
-use Rattle.std.specs.Prelude.{ℕ, pos, ◌-ℤ◌, ◌+ℤ◌, ◌+◌, ◌-◌, ◌*◌, ◌==◌, Bool, true, false, not, ◌&&◌, leb, max, if◌then◌else◌, unwrap_or, List, [], ◌∷◌, ◌++◌, chars, flat_map, map, take, drop, ◌≡◌, string_bytes}
+use Rattle.std.specs.Prelude.{ℕ, pos, ◌-ℤ◌, ◌+ℤ◌, ◌+◌, ◌-◌, ◌*◌, ◌==◌, Bool, true, false, not, ◌&&◌, leb, max, if◌then◌else◌, List, [], ◌∷◌, ◌++◌, chars, flat_map, map, take, drop, ◌≡◌, string_bytes}
 use Rattle.std.specs.List.{list_all, sum_by}
 use Rattle.unicode_segmentation.specs.Grapheme.{graphemes}
-use Rattle.unicode_width.specs.Width.{char_width}
 use Rattle.tw_surface.specs.declared.measure.Piece.{Piece}
 use Rattle.tw_surface.specs.declared.measure.Piece.TheVariants.{Wide, Cr, Lf, CrLf}
 use Rattle.tw_surface.specs.ChangeView.{Text}
 use Rattle.tw_surface.specs.Paintings.{cursor_place, place_at}
 use Rattle.tw_surface.specs.Scenes.{Scene}
 use Rattle.tw_surface.specs.Characters.{is_plain, is_printable}
-use Rattle.tw_surface.specs.Places.{Place, origin, pieces, plain_piece, cluster_piece, end_of_pieces, places_after, is_in_range, place_after_all}
+use Rattle.tw_surface.specs.Places.{Place, origin, pieces, plain_piece, cluster_piece, end_of_pieces, places_after, is_in_range, place_after_all, begins_at}
 use Rattle.tw_surface.specs.Positions.{at_least_0}
-use Rattle.tw_surface.specs.Width.{cluster_width, column_width}
+use Rattle.tw_surface.specs.Width.{cluster_width, column_width, char_columns}
 use Rattle.tw_line.specs.Cut.{Cut}
 use Rattle.tw_input.specs.EventView.{EventView, Resized}
 use Rattle.tw_host.specs.ElementView.{changes_of}
 use Rattle.tw_host.specs.Faithful.{IsFaithful}
 use Rattle.tw_host.specs.HostRules.{HostRules, Highlight, plain_text}
 use Rattle.tw_hosts.specs.declared.settling.PromptScreen.{PromptScreen}
-
--- the columns of a character by itself: none for a control character
-abbrev pub char_columns : ℕ → ℕ
-char_columns c = unwrap_or (char_width false c) 0
 
 -- the characters of a text that take columns, each by itself
 abbrev pub character_piece : ℕ → List Piece
@@ -61,11 +56,6 @@ needed _ = 1
 -- the columns that the beginning of a text needs
 unfoldable pub needed_by_text : List ℕ → ℕ
 needed_by_text text = needed (settled_pieces text)
-
--- the cell in which a character of this width begins after a place: there, or where it does not fit the first cell of
--- the next row
-abbrev pub begins_at : ℕ → ℕ → Place → Place
-begins_at cols width p = if leb (p.x + width) cols then p else record { x = 0; y = p.y +ℤ pos 1 }
 
 -- where the line begins, as the editor measures the prompt
 abbrev pub line_start : ℕ → List ℕ → Place

@@ -7,11 +7,12 @@
 ghost use Rattle.std.specs.Prelude.{◌≡◌, ◌<◌, ◌≤◌, ◌+◌, ◌-ℤ◌, [], ◌∷◌, chars, length, IfSome, MatchOption, IsCharBoundary, nat_abs, true, false};
 ghost use Rattle.tw_surface.specs.declared.measure.Piece.TheVariants.{Wide};
 ghost use Rattle.tw_surface.specs.Extents.{place_of, Measures};
-ghost use Rattle.tw_surface.specs.Places.{is_in_range, places_after};
+ghost use Rattle.tw_surface.specs.Places.{is_in_range, places_after, begins_at};
 ghost use Rattle.tw_surface.specs.Positions.{at_least_0};
+ghost use Rattle.tw_surface.specs.Width.{char_columns};
 ghost use Rattle.tw_input.specs.EventView.{event_view};
 ghost use Rattle.tw_line.specs.Cut.{cut_at};
-ghost use Rattle.tw_hosts.specs.Settling.{char_columns, character_pieces, is_parted, pieces_left, settled_pieces, needed_by_text, begins_at, columns_between, is_ahead, is_measured, is_settled, line_start, place_after_text, settled_column, settled_place, column_on, screen_after, screen_view};
+ghost use Rattle.tw_hosts.specs.Settling.{character_pieces, is_parted, pieces_left, settled_pieces, needed_by_text, columns_between, is_ahead, is_measured, is_settled, line_start, place_after_text, settled_column, settled_place, column_on, screen_after, screen_view};
 
 use tw_input::InputEvent;
 use tw_surface::{

@@ -10,7 +10,7 @@ use Rattle.tw_host.specs.HostRules.{HostRules}
 use Rattle.tw_host.specs.declared.host.Overrides.{Overrides}
 use Rattle.tw_session.specs.EditState.{EditState, Inactive}
 use Rattle.tw_session.specs.Refusal.{Refusal, refusal_of, IsMemory}
-use Rattle.tw_session.specs.Outcomes.{Outcome, answer_at, IsLine, IsRefusal}
+use Rattle.tw_session.specs.Outcomes.{Outcome, answer_at, TakesMemoryToCopy, IsRefusal}
 use Rattle.tw_lineedit.specs.Frame.{Frame, with_value}
 use Rattle.tw_lineedit.specs.Run.{Ending, Moment, run_of, ending, StandsAt, Quiet, IsAnswered, moment, progress_of, IsRefusedIn}
 use Rattle.tw_lineedit.specs.EditorSteps.{Closes, CutsClosing, MissesFlush, FailsToClose, GivesUp}
@@ -285,11 +285,11 @@ module _ {V : Type 0} (f : Frame V) where
       (ap (ending (answer_at f.state)) (sym same)) (subst (λ (y : Frame V). Quiet f y) (sym same) (record { flushed = refl; failures = refl })) c)
 
   -- a line that is not answered
-  finish_refused : (h : Frame V) (x : Error) → h ≡ f → IsMemory x → IsLine (answer_at f.state) → IsRefusedIn answered_run (Uncopied f) (λ m. ⊥) f h x
+  finish_refused : (h : Frame V) (x : Error) → h ≡ f → IsMemory x → TakesMemoryToCopy (answer_at f.state) → IsRefusedIn answered_run (Uncopied f) (λ m. ⊥) f h x
   finish_refused h (Memory y) same m l = subst (λ (k : Frame V). IsRefusedIn answered_run (Uncopied f) (λ m. ⊥) f k (Memory y)) (sym same)
       ((moment None f.terminal.events (progress_of f), (l, refl), refl, stands_here f), record { flushed = refl; failures = refl })
   finish_refused h _ same bad l = absurd bad
 
   -- and what closing it leaves
-  pub finish_given_up : (h g : Frame V) (x e : Error) → h ≡ f → IsMemory x → IsLine (answer_at f.state) → GivesUp x h g e → FailsToFinish f g e
+  pub finish_given_up : (h g : Frame V) (x e : Error) → h ≡ f → IsMemory x → TakesMemoryToCopy (answer_at f.state) → GivesUp x h g e → FailsToFinish f g e
   finish_given_up h g x e same m l c = gives_up answered_run (Uncopied f) (λ m. ⊥) (HaltsIn answered_run (Uncopied f)) f (λ m can. inr can) (λ is. inl refl) h g x e (finish_refused h x same m l) c

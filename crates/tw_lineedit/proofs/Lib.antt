@@ -7,6 +7,7 @@ pub mod StationLemmas
 pub mod PaintLemmas
 pub mod ScreenRunLemmas
 pub mod StoppedLemmas
+pub mod StopsLemmas
 pub mod ShownLemmas
 pub mod BeginningLemmas
 pub mod UseLemmas

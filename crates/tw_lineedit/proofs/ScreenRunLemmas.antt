@@ -11,8 +11,8 @@ use Rattle.tw_host.specs.HostRules.{HostRules}
 use Rattle.tw_lineedit.specs.Frame.{Frame}
 use Rattle.tw_lineedit.specs.Run.{Progress, progress_of}
 use Rattle.tw_lineedit.specs.Stations.{Station, stations_from, stations_of}
-use Rattle.tw_lineedit.specs.ScreenRuns.{sized_scene, batches_of, is_cleared, ReachesPlainly, first_row, shots_at, Comes}
-use Rattle.tw_lineedit.proofs.StationLemmas.{played-is}
+use Rattle.tw_lineedit.specs.ScreenRuns.{sized_scene, batches_of, is_cleared, ReachesPlainly, first_row, shots_at, Comes, RunIsFresh, RunClosesBelow, RunShows}
+use Rattle.tw_lineedit.proofs.StationLemmas.{played-is, tells_scenes}
 
 module _ {V : Type 0} (rules : HostRules V) where
   -- the first of a list of stations was cleared
@@ -66,3 +66,20 @@ module _ {V : Type 0} (rules : HostRules V) where
     pub first_row-is : (cleared : Bool) → is_cleared rules (earlier ++ station ∷ []) ≡ cleared
         → first_row rules before.row (earlier ++ station ∷ []) ≡ (if cleared then 0 else before.row)
     first_row-is cleared e = rw (cleared_scenes (earlier ++ station ∷ []), e) refl
+
+  -- ---- a run
+
+  -- the painting of each station is fresh from the row on in which the list of stations is painted
+  pub run_is_fresh : (f : Frame V) → RunIsFresh rules f
+  run_is_fresh f w earlier station later before h =
+      let q = fresh_there f w earlier station later before h in
+      record { beginning = (tells_scenes rules f earlier station later (comes_plainly h)).beginning; fresh = q.0; above = q.1 }
+
+  -- the closing batch
+  pub closes_below : (f : Frame V) → RunClosesBelow rules f
+  closes_below f w earlier station later before h none =
+      let tells = tells_scenes rules f earlier station later (comes_plainly h) in
+      (tells.all none, rw (tells.closing none) (closed_there f w earlier station later before h))
+
+  pub run_shows : (f : Frame V) → RunShows rules f
+  run_shows f = record { painting = run_is_fresh f; stopping = closed_there f; closing = closes_below f }

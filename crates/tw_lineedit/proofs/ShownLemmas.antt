@@ -1,7 +1,6 @@
 -- What a screen shows of a call.
-use Rattle.std.proofs.Common.{◌≡◌, ℕ, ◌+◌, ◌<◌, List, [], ◌∷◌, ◌++◌, false, length, sym, ◌∙◌, ap, subst, append_assoc, inl, inr, Option, Result, Ok, Err, IfOk, IfErr, OnOk, arith}
+use Rattle.std.proofs.Common.{◌≡◌, ℕ, List, [], ◌∷◌, ◌++◌, false, ◌∙◌, ap, subst, append_assoc, Option, Result, Ok, Err, IfOk, IfErr, OnOk}
 use Rattle.std.specs.List.{All}
-use Rattle.std.proofs.lemmas.List.{append-nil}
 use Rattle.tw_surface.specs.ChangeView.{Batch}
 use Rattle.tw_surface.specs.Pictures.{Picture}
 use Rattle.tw_surface.specs.PaintingBatches.{closing_if}
@@ -14,12 +13,13 @@ use Rattle.tw_session.specs.Refusal.{refusal_of}
 use Rattle.tw_session.specs.Outcomes.{Outcome}
 use Rattle.tw_lineedit.specs.Feeding.{Begins}
 use Rattle.tw_lineedit.specs.Frame.{Frame}
-use Rattle.tw_lineedit.specs.Run.{Moment, want, fault, run_of, progress_of}
-use Rattle.tw_lineedit.specs.Reading.{start, final_moment, Reads, Leaves, ClosesBadly, Starves, Faults, Halts, FailsToRead}
+use Rattle.tw_lineedit.specs.Run.{run_of}
+use Rattle.tw_lineedit.specs.Reading.{start, Reads, FailsToRead}
 use Rattle.tw_lineedit.specs.Stations.{Station}
-use Rattle.tw_lineedit.specs.ScreenRuns.{batches_of, Comes, RendersNothing, IsStopped, HasPainted, ShowsFresh, ShowsFirst, Shows}
+use Rattle.tw_lineedit.specs.ScreenRuns.{batches_of, Comes, RendersNothing, IsStopped, HasPainted, ShowsFresh, ShowsFirst, StopsAfter, Shows}
 use Rattle.tw_lineedit.proofs.StationLemmas.{first_batches, all_taken, closing-is}
-use Rattle.tw_lineedit.proofs.StoppedLemmas.{Stopped, stopped, first_stopped, first_begun}
+use Rattle.tw_lineedit.proofs.StoppedLemmas.{first_begun}
+use Rattle.tw_lineedit.proofs.StopsLemmas.{first_of_stop, stops_refused}
 use Rattle.tw_lineedit.proofs.ScreenRunLemmas.{comes_plainly, first_not_cleared, fresh_there, closed_there, first_row-is}
 
 module _ {V : Type 0} (rules : HostRules V) where
@@ -66,61 +66,21 @@ module _ {V : Type 0} (rules : HostRules V) where
       r.batches ∙ ap (λ (b : List Batch). b ++ closing_if (run_of rules f).mark) (all_taken rules comes none)
       ∙ append_assoc f.terminal.batches (batches_of rules (earlier ++ station ∷ [])) (closing_if (run_of rules f).mark))
 
-  -- up to a moment each station after which an event was taken was painted
-  abbrev HoldsUpTo : Frame V → Moment V → Type 0
-  HoldsUpTo f m = (earlier : List (Station V)) (station : Station V) (later : List (Station V)) → Comes rules f earlier station later → length earlier + length m.left < length f.terminal.events
-      → (rest : List Batch) × (m.taken ≡ f.terminal.batches ++ (batches_of rules (earlier ++ station ∷ []) ++ rest))
-
-  holds_final : (f : Frame V) (m : Moment V) → m ≡ final_moment (run_of rules f) → HoldsUpTo f m
-  holds_final f m same = subst (HoldsUpTo f) (sym same) (λ earlier station later comes far. first_batches rules comes)
-
-  -- what a frame that is closed took from the moment on
-  abbrev Ends : Moment V → Frame V → Type 0
-  Ends m g = (more : List Batch) × (g.terminal.batches ≡ m.taken ++ more) × (g.terminal.events ≡ m.left)
-
-  ends : (m : Moment V) (end : List Batch) (g : Frame V) → Leaves m end g → Ends m g
-  ends m end g l = (l.batches.0 ++ end, l.batches.2 ∙ append_assoc m.taken l.batches.0 end, l.left)
-
-  ends_badly : (m : Moment V) (f g : Frame V) → ClosesBadly m f g → Ends m g
-  ends_badly m f g (inl c) = ends m c.leaves.1 g c.leaves.4
-  ends_badly m f g (inr c) = ends m (closing_if m.mark) g c.leaves
-
-  shows_up_to : {A : Type 0} (f g : Frame V) (m : Moment V) (result : Result A Error) → (IsStopped result) → HoldsUpTo f m → Ends m g → Shows rules f g result
-  shows_up_to f g m result is holds (more, batches, left) = shows f g result
-      (λ earlier station later comes painted.
-      let first = holds earlier station later comes (subst (λ (l : List _). length earlier + length l < length f.terminal.events) left (painted is)) in (
-        first.0 ++ more,
-        batches ∙ ap (λ (b : List Batch). b ++ more) first.1
-            ∙ append_assoc f.terminal.batches (batches_of rules (earlier ++ station ∷ []) ++ first.0) more
-            ∙ ap (λ (b : List Batch). f.terminal.batches ++ b) (append_assoc (batches_of rules (earlier ++ station ∷ [])) first.0 more),
-      ))
+  -- a call that was stopped
+  shows_stopped : {A : Type 0} (f g : Frame V) (result : Result A Error) → IsStopped result → StopsAfter rules f g → Shows rules f g result
+  shows_stopped f g result is stop = shows f g result
+      (λ earlier station later comes painted. first_of_stop rules comes g stop (painted is))
       (λ earlier station later comes none whole. absurd (whole is))
 
   module _ (overrides : Overrides) (initial : Option (List ℕ)) (f : Frame V) where
     abbrev begun : Frame V
     begun = start initial f
 
-    holds_stopped : (m : Moment V) → Stopped rules begun.terminal.events false (progress_of begun) begun.terminal.batches m → HoldsUpTo begun m
-    holds_stopped m st earlier station later comes far = first_stopped rules comes m st far
-
-    holds_starved : (m : Moment V) → Starves rules overrides initial f m → HoldsUpTo begun m
-    holds_starved m (inl can) = holds_stopped m (stopped rules overrides want begun.terminal.events false (progress_of begun) begun.terminal.batches m (sym (append-nil begun.terminal.batches)) can)
-    holds_starved m (inr (some, same)) = subst (HoldsUpTo begun) (sym same) (λ earlier station later comes far. absurd (omega (arith, far)))
-
-    holds_faulted : (m : Moment V) → Faults rules overrides initial f m → HoldsUpTo begun m
-    holds_faulted m can = holds_stopped m (stopped rules overrides fault begun.terminal.events false (progress_of begun) begun.terminal.batches m (sym (append-nil begun.terminal.batches)) can)
-
-    holds_halted : (m : Moment V) → Halts rules overrides initial f m → HoldsUpTo begun m
-    holds_halted m (inl same) = holds_final begun m same
-    holds_halted m (inr (can, idle)) = holds_starved m can
-
     -- a call that was refused
     pub shows_refused : {A : Type 0} (g : Frame V) (e : Error) → FailsToRead rules overrides initial f g e → let result : Result A Error = Err e in Shows rules begun g result
-    shows_refused g (Memory x) (m, can, idle, closes, count) = shows_up_to begun g m (Err (Memory x)) tt (holds_starved m can) (ends m (closing_if m.mark) g closes.leaves)
-    shows_refused g (Terminal x) (m, inl (can, closes, count)) = shows_up_to begun g m (Err (Terminal x)) tt (holds_faulted m can) (ends m (closing_if m.mark) g closes.leaves)
-    shows_refused g (Terminal x) (m, inr (inl (can, closes, count))) = shows_up_to begun g m (Err (Terminal x)) tt (holds_faulted m can) (ends_badly m f g closes)
-    shows_refused g (Terminal x) (m, inr (inr (can, closes, count))) = shows_up_to begun g m (Err (Terminal x)) tt (holds_halted m can) (ends_badly m f g closes)
-    shows_refused g e r = shows_read begun f g (Err e) (Err (refusal_of e)) r
+    shows_refused {A = A} g (Memory x) r = shows_stopped begun g (Err (Memory x)) tt (stops_refused rules overrides initial f A g (Memory x) r tt)
+    shows_refused {A = A} g (Terminal x) r = shows_stopped begun g (Err (Terminal x)) tt (stops_refused rules overrides initial f A g (Terminal x) r tt)
+    shows_refused {A = A} g e r = shows_read begun f g (Err e) (Err (refusal_of e)) r
 
     -- a call with its answer
     pub shows_call : {A : Type 0} (g : Frame V) (outcome : A → Outcome) (result : Result A Error)
@@ -137,14 +97,14 @@ module _ {V : Type 0} (rules : HostRules V) where
         record { end = c.end; taken = ap (λ (t : TerminalState). t.batches) same ∙ c.taken; closed = c.closed };
   }
     where
-      fresh : {w s : ℕ} {earlier : List (Station V)} {station : Station V} {before : Picture} → ShowsFresh rules f g w s earlier station before → ShowsFresh rules f h w s earlier station before
+      fresh : {w s : ℕ} {earlier : List (Station V)} {station : Station V} {before : Picture} → ShowsFresh rules f g.terminal.batches w s earlier station before → ShowsFresh rules f h.terminal.batches w s earlier station before
       fresh k = record { beginning = (k.beginning.0, ap (λ (t : TerminalState). t.batches) same ∙ k.beginning.1); fresh = k.fresh; above = k.above }
 
   -- a line that is begun
   pub shows_begun : (overrides : Overrides) (f g : Frame V) → Begins rules overrides f g → ShowsFirst rules f g
   shows_begun overrides f g b w station later before h =
       let q = fresh_there rules f w [] station later before h in
-      subst (λ (n : ℕ). ShowsFresh rules f g w n [] station before)
+      subst (λ (n : ℕ). ShowsFresh rules f g.terminal.batches w n [] station before)
       (first_row-is rules f w [] station later before h false (first_not_cleared rules f station later h.stations))
       (record { beginning = ([], first_begun rules (comes_plainly rules h) b.paints); fresh = q.0; above = q.1 })
 

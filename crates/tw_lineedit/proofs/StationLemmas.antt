@@ -225,13 +225,31 @@ module _ {V : Type 0} (rules : HostRules V) where
   clearing_behind [] later h = refl
   clearing_behind (s ∷ stations) later ((p, e), more) = rw e (clearing_behind stations later more)
 
-  -- their batches are those of their scenes
+  pub painted_shots-are : (stations : List (Station V)) → ArePainted stations → painted_shots rules stations ≡ map shot_of (map (sized_scene rules) stations)
+  painted_shots-are stations h =
+      ap (painted_shots rules) (sym (append-nil stations)) ∙ shots_before stations [] h ∙ append-nil (map shot_of (map (sized_scene rules) stations))
+
+  -- their batches are those of their scenes, and come before those of the stations after them
+  pub batches_before : (mark : Option Mark) (stations later : List (Station V)) → ArePainted stations
+      → station_batches rules mark (stations ++ later) ≡ batches_after mark (map shot_of (map (sized_scene rules) stations))
+      ++ station_batches rules (mark_after mark (map shot_of (map (sized_scene rules) stations))) later
+  batches_before mark stations later h =
+      let list : List Shot = map shot_of (map (sized_scene rules) stations) in
+      let others : List Batch = batches_after (mark_after mark list) (painted_shots rules later) in
+      ap (λ (l : List Shot). batches_after mark l ++ refused_clearing rules (stations ++ later)) (shots_before stations later h)
+      ∙ ap (λ (b : List Batch). batches_after mark (list ++ painted_shots rules later) ++ b) (clearing_behind stations later h)
+      ∙ ap (λ (b : List Batch). b ++ refused_clearing rules later) (batches_after-append mark list (painted_shots rules later))
+      ∙ append_assoc (batches_after mark list) others (refused_clearing rules later)
+
   pub batches_are_shots : (stations : List (Station V)) → ArePainted stations → batches_of rules stations ≡ batches (map shot_of (map (sized_scene rules) stations))
   batches_are_shots stations h =
-      let list : List Shot = map shot_of (map (sized_scene rules) stations) in
-      let after_painting : painted_shots rules stations ≡ list = ap (painted_shots rules) (sym (append-nil stations)) ∙ shots_before stations [] h ∙ append-nil list in
-      let none : refused_clearing rules stations ≡ [] = ap (refused_clearing rules) (sym (append-nil stations)) ∙ clearing_behind stations [] h in
-      ap (λ (l : List Shot). batches l ++ refused_clearing rules stations) after_painting ∙ ap (λ (b : List Batch). batches list ++ b) none ∙ append-nil (batches list)
+      ap (batches_of rules) (sym (append-nil stations)) ∙ batches_before None stations [] h ∙ append-nil (batches (map shot_of (map (sized_scene rules) stations)))
+
+  pub batches_of_before : (stations later : List (Station V)) → ArePainted stations
+      → batches_of rules (stations ++ later) ≡ batches_of rules stations ++ station_batches rules (mark_after None (map shot_of (map (sized_scene rules) stations))) later
+  batches_of_before stations later h =
+      batches_before None stations later h
+      ∙ ap (λ (b : List Batch). b ++ station_batches rules (mark_after None (map shot_of (map (sized_scene rules) stations))) later) (sym (batches_are_shots stations h))
 
   -- where nothing is rendered there are no paintings
   no_shots : (later : List (Station V)) → All (RendersNothing rules) later → painted_shots rules later ≡ []
@@ -269,33 +287,29 @@ module _ {V : Type 0} (rules : HostRules V) where
     shots-are : painted_shots rules (stations_of rules f) ≡ so_far ++ painted_shots rules later
     shots-are = ap (painted_shots rules) parted ∙ shots_before (earlier ++ station ∷ []) later all_painted
 
-    -- the batches of the run
-    taken-is : (run_of rules f).taken ≡ f.terminal.batches ++ (batches (so_far ++ painted_shots rules later) ++ refused_clearing rules later)
+    -- the batches after the station
+    abbrev rest_of : List Batch
+    rest_of = station_batches rules (mark_after None so_far) later
+
+    -- those up to it are the first ones of the run
+    taken-is : (run_of rules f).taken ≡ f.terminal.batches ++ (batches_of rules (earlier ++ station ∷ []) ++ rest_of)
     taken-is =
         batches_by_stations f
         ∙ ap (λ (mark : Option Mark). f.terminal.batches ++ station_batches rules mark (stations_of rules f)) h.nothing_painted
-        ∙ ap (λ (l : List Shot). f.terminal.batches ++ (batches l ++ refused_clearing rules (stations_of rules f))) shots-are
-        ∙ ap (λ (b : List Batch). f.terminal.batches ++ (batches (so_far ++ painted_shots rules later) ++ b))
-        (ap (refused_clearing rules) parted ∙ clearing_behind (earlier ++ station ∷ []) later all_painted)
+        ∙ ap (λ (l : List (Station V)). f.terminal.batches ++ batches_of rules l) parted
+        ∙ ap (λ (b : List Batch). f.terminal.batches ++ b) (batches_of_before (earlier ++ station ∷ []) later all_painted)
 
-    -- those up to the station are the first ones
     pub first_batches : (rest : List Batch) × ((run_of rules f).taken ≡ f.terminal.batches ++ (batches_of rules (earlier ++ station ∷ []) ++ rest))
-    first_batches =
-        let others : List Batch = batches_after (mark_after None so_far) (painted_shots rules later) in (
-          others ++ refused_clearing rules later,
-          taken-is
-              ∙ ap (λ (b : List Batch). f.terminal.batches ++ (b ++ refused_clearing rules later)) (batches_after-append None so_far (painted_shots rules later))
-              ∙ ap (λ (b : List Batch). f.terminal.batches ++ b) (append_assoc (batches so_far) others (refused_clearing rules later))
-              ∙ ap (λ (b : List Batch). f.terminal.batches ++ (b ++ (others ++ refused_clearing rules later))) (sym played-is),
-        )
+    first_batches = (rest_of, taken-is)
 
     -- and all, where nothing is rendered at later ones
     pub all_taken : All (RendersNothing rules) later → (run_of rules f).taken ≡ f.terminal.batches ++ batches_of rules (earlier ++ station ∷ [])
     all_taken none =
+        let up_to : List Batch = batches_of rules (earlier ++ station ∷ []) in
         taken-is
-        ∙ ap (λ (l : List Shot). f.terminal.batches ++ (batches (so_far ++ l) ++ refused_clearing rules later)) (no_shots later none)
-        ∙ ap (λ (b : List Batch). f.terminal.batches ++ (batches (so_far ++ []) ++ b)) (no_clearing later none)
-        ∙ ap (λ (b : List Batch). f.terminal.batches ++ b) (append-nil (batches (so_far ++ [])) ∙ ap batches (append-nil so_far) ∙ sym played-is)
+        ∙ ap (λ (l : List Shot). f.terminal.batches ++ (up_to ++ (batches_after (mark_after None so_far) l ++ refused_clearing rules later))) (no_shots later none)
+        ∙ ap (λ (b : List Batch). f.terminal.batches ++ (up_to ++ b)) (no_clearing later none)
+        ∙ ap (λ (b : List Batch). f.terminal.batches ++ b) (append-nil up_to)
 
     -- then the closing batch is that of what is shown
     pub closing-is : All (RendersNothing rules) later → closing_if (run_of rules f).mark ≡ closing_batch so_far

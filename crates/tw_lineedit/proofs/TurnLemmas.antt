@@ -2,7 +2,7 @@
 use Rattle.std.proofs.Common.{◌≡◌, ℕ, Option, List, [], ◌∷◌, cond, Bool, true, false, refl, sym, ◌∙◌, ap, subst, inl, inr, None, arith}
 use Rattle.tw_input.specs.EventView.{EventView}
 use Rattle.tw_terminal.specs.TerminalState.{TerminalState}
-use Rattle.tw_session.specs.Outcomes.{is_over, answer_at, IsLine, Outcome}
+use Rattle.tw_session.specs.Outcomes.{is_over, answer_at, TakesMemoryToCopy, Outcome}
 use Rattle.tw_lineedit.specs.Frame.{Frame}
 use Rattle.tw_lineedit.specs.Run.{Progress, Moment, Cause, want, fault, run, ends, after_event, state_after, after_taking, moment, progress_of, CanStopFrom, Quiet, run_of, IsAnswered, CanRefuse, refused, CanStopOn, taking, unpolled, uncopied}
 use Rattle.tw_lineedit.specs.EditorSteps.{CallFails, TakesEvent, HasNoEvent, HandlesAndPaints, FailsToHandleOrPaint}
@@ -93,7 +93,7 @@ module _ {V : Type 0} (rules : HostRules V) (overrides : Overrides) where
   turned_down_later f g h e a r = refused_later _ _ _ _ _ _ f g h (λ n at. a.run ∙ at) (a.stops want) (a.stops fault) a.quiet e r
 
   -- the answer was not copied
-  pub not_copied : (f g h : Frame V) (x : AllocError) → IsEnded rules overrides f g → h ≡ g → IsLine (answer_at g.state) → IsRefusedOn rules overrides f.terminal.events f h (Memory x)
+  pub not_copied : (f g h : Frame V) (x : AllocError) → IsEnded rules overrides f g → h ≡ g → TakesMemoryToCopy (answer_at g.state) → IsRefusedOn rules overrides f.terminal.events f h (Memory x)
   not_copied f g h x a same l = subst (λ (y : Frame V). IsRefusedOn rules overrides f.terminal.events f y (Memory x)) (sym same)
       ((moment None g.terminal.events (progress_of g), a.stops l, refl, stands_here g), a.quiet)
 

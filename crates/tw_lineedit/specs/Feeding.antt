@@ -7,7 +7,7 @@ use Rattle.tw_session.specs.EditState.{Inactive}
 use Rattle.tw_session.specs.Painting.{Rendering}
 use Rattle.tw_session.specs.Refusal.{Refusal}
 use Rattle.tw_session.specs.declared.error.Error.{Error}
-use Rattle.tw_session.specs.Outcomes.{Outcome, answer_at, IsLine, is_over}
+use Rattle.tw_session.specs.Outcomes.{Outcome, answer_at, TakesMemoryToCopy, is_over}
 use Rattle.tw_lineedit.specs.Frame.{Frame}
 use Rattle.tw_lineedit.specs.Run.{Progress, Ending, Moment, Cause, want, fault, ends, ending, after_painting, moment, progress_of, painting_at, state_after, after_event, run, CanMiss, CanRefuse, CanStop, CanStopOn, CanStopAt, Quiet, IsRefusedIn}
 use Rattle.tw_lineedit.specs.EditorSteps.{Paints, HandlesAndPaints}
@@ -122,13 +122,13 @@ module _ {V : Type 0} (rules : HostRules V) (overrides : Overrides) where
   -- the run from a painting of f ends at g without refusal
   pub record IsEnded (f g : Frame V) : Type 0 where
     pub run : run_on rules f.terminal.events (progress_of f) ≡ ending (answer_at g.state) g
-    pub stops : IsLine (answer_at g.state) → CanStopOn rules overrides want f.terminal.events (progress_of f) (moment None g.terminal.events (progress_of g))
+    pub stops : TakesMemoryToCopy (answer_at g.state) → CanStopOn rules overrides want f.terminal.events (progress_of f) (moment None g.terminal.events (progress_of g))
     pub quiet : Quiet f g
 
 module _ {V : Type 0} where
   -- where the copy of the line finds no memory
   abbrev pub Uncopied : Frame V → Moment V → Type 0
-  Uncopied f m = IsLine (answer_at f.state) × (m ≡ moment None f.terminal.events (progress_of f))
+  Uncopied f m = TakesMemoryToCopy (answer_at f.state) × (m ≡ moment None f.terminal.events (progress_of f))
 
   -- what a refused answer leaves, once it is closed
   abbrev pub FailsToFinish : Frame V → Frame V → Error → Type 0

@@ -8,7 +8,7 @@ use Rattle.tw_lineedit.specs.Frame.{Frame}
 use Rattle.tw_lineedit.specs.Run.{ending, run_of, IsAnswered}
 use Rattle.tw_lineedit.specs.Reading.{start, Reads}
 use Rattle.tw_lineedit.specs.Feeding.{Begins}
-use Rattle.tw_lineedit.specs.ScreenRuns.{Shows, ShowsFirst}
+use Rattle.tw_lineedit.specs.ScreenRuns.{IsStopped, RunShows, StopsAfter, Shows, ShowsFirst}
 
 module _ {V : Type 0} (rules : HostRules V) where
   -- the line begins, and is painted
@@ -27,6 +27,14 @@ module _ {V : Type 0} (rules : HostRules V) where
     -- what a screen shows of its run
     abbrev pub ShowsWith : {A : Type 0} → Frame V → Frame V → Result A Error → Type 0
     ShowsWith before after result = Shows rules (start initial before) after result
+
+    -- what a screen shows of the batches of its run, whatever stops it
+    abbrev pub RunShowsWith : Frame V → Type 0
+    RunShowsWith before = RunShows rules (start initial before)
+
+    -- what the terminal has taken of its run where memory or the terminal stopped it
+    abbrev pub StopsWith : {A : Type 0} → Frame V → Frame V → Result A Error → Type 0
+    StopsWith before after result = IsStopped result → StopsAfter rules (start initial before) after
 
     -- what a screen shows of its first painting
     abbrev pub ShowsFirstWith : Frame V → Frame V → Type 0

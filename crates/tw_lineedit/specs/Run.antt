@@ -13,7 +13,7 @@ use Rattle.tw_host.specs.ActionView.{Repaint}
 use Rattle.tw_session.specs.EditState.{EditState}
 use Rattle.tw_session.specs.Refusal.{Refusal, refusal_of}
 use Rattle.tw_lineedit.specs.Frame.{Frame}
-use Rattle.tw_session.specs.Outcomes.{Outcome, answer_at, IsLine, is_over}
+use Rattle.tw_session.specs.Outcomes.{Outcome, answer_at, TakesMemoryToCopy, is_over}
 use Rattle.tw_session.specs.Memory.{TakesMemory}
 use Rattle.tw_session.specs.Steps.{apply_if, clears_if}
 use Rattle.tw_session.specs.Painting.{Rendering, rendering_of, painted_on, scene_of}
@@ -166,7 +166,7 @@ module _ {V : Type 0} (rules : HostRules V) (overrides : Overrides) where
       -- no event was told
       unpolled : {es : List EventView} {s : Progress V} → is_over s.state.mode ≡ false → CanStopOn fault es s (moment None es s)
       -- the run ended with a line, and the line was not copied
-      uncopied : {es : List EventView} {s : Progress V} → (is_over s.state.mode ≡ true) ⊎ (es ≡ []) → IsLine (answer_at s.state) → CanStopOn want es s (moment None es s)
+      uncopied : {es : List EventView} {s : Progress V} → (is_over s.state.mode ≡ true) ⊎ (es ≡ []) → TakesMemoryToCopy (answer_at s.state) → CanStopOn want es s (moment None es s)
       -- at an event, or after it
       taking : {c : Cause} {e : EventView} {es : List EventView} {s : Progress V} {m : Moment V} → is_over s.state.mode ≡ false → CanStopAt c e es s m → CanStopOn c (e ∷ es) s m
 

@@ -1,11 +1,12 @@
 -- What a screen shows while the batches that a call takes are played on it.
-use Rattle.std.specs.Prelude.{◌≡◌, ℕ, ◌+◌, ◌<◌, ◌≤◌, Bool, false, length, List, [], ◌∷◌, ◌++◌, map, None, Result, Ok, Err}
+use Rattle.std.specs.Prelude.{◌≡◌, ℕ, ◌+◌, ◌<◌, ◌≤◌, ◌⊎◌, Bool, true, false, length, List, [], ◌∷◌, ◌++◌, map, Option, Some, None, Result, Ok, Err}
 use Rattle.std.specs.List.{list_any, All}
 use Rattle.tw_surface.specs.ChangeView.{Batch}
-use Rattle.tw_surface.specs.Paintings.{Painting}
+use Rattle.tw_surface.specs.Paintings.{Painting, Mark, closing}
 use Rattle.tw_surface.specs.Pictures.{Picture}
 use Rattle.tw_surface.specs.Fresh.{IsFresh, IsSameAbove, IsClosed, last_row}
-use Rattle.tw_surface.specs.PaintingBatches.{SizedScene, Shot, shot_of, IsPlainAt, play_batches, scenes_of, start_row, batches, closing_batch, closing_if}
+use Rattle.tw_surface.specs.PaintingBatches.{SizedScene, Shot, shot_of, IsPlainAt, play_batches, scenes_of, start_row, start_of, clear_batch, batches, mark_after, closing_batch, closing_if}
+use Rattle.tw_terminal.specs.TerminalState.{IsPart}
 use Rattle.tw_host.specs.HostRules.{HostRules}
 use Rattle.tw_session.specs.Painting.{scene_of}
 use Rattle.tw_session.specs.Refusal.{Refusal}
@@ -14,6 +15,10 @@ use Rattle.tw_session.specs.declared.error.Error.TheVariants.{Memory, Terminal}
 use Rattle.tw_lineedit.specs.Frame.{Frame}
 use Rattle.tw_lineedit.specs.Run.{run_of}
 use Rattle.tw_lineedit.specs.Stations.{Station, station_painting, station_batches, stations_of}
+
+-- the closing batch of a painting, or a beginning of it; nothing if nothing was painted
+abbrev pub IsClosing : Option Mark → List Batch → Type 0
+IsClosing mark end = (end ≡ closing_if mark) ⊎ ((m : Mark) × (mark ≡ Some m) × IsPart (closing m) end)
 
 -- memory or the terminal stopped a call
 abbrev pub IsStopped : {A : Type 0} → Result A Error → Type 0
@@ -81,26 +86,88 @@ module _ {V : Type 0} (rules : HostRules V) where
   RunsTellScenes = (f : Frame V) (earlier : List (Station V)) (station : Station V) (later : List (Station V))
       → Comes f earlier station later → TellsScenes f earlier station later
 
-  -- ---- a call
-
-  -- On the way from f to g the terminal took the batches up to the station's painting first, and after them the screen
-  -- shows its fresh painting from a row on; the rows above are as they were.
-  pub record ShowsFresh (f g : Frame V) (w s : ℕ) (earlier : List (Station V)) (station : Station V) (before : Picture) : Type 0 where
-    pub beginning : (rest : List Batch) × (g.terminal.batches ≡ f.terminal.batches ++ (batches_of (earlier ++ station ∷ []) ++ rest))
+  -- The batches up to the station's painting are the first of these that were taken from f on, and after them the
+  -- screen shows its fresh painting from a row on; the rows above are as they were.
+  pub record ShowsFresh (f : Frame V) (taken : List Batch) (w s : ℕ) (earlier : List (Station V)) (station : Station V) (before : Picture) : Type 0 where
+    pub beginning : (rest : List Batch) × (taken ≡ f.terminal.batches ++ (batches_of (earlier ++ station ∷ []) ++ rest))
     pub fresh : IsFresh w s (sized_scene station).scene (play_batches w (batches_of (earlier ++ station ∷ [])) before)
     pub above : IsSameAbove w s before (play_batches w (batches_of (earlier ++ station ∷ [])) before)
 
+  -- After the station's painting these batches leave the cursor at column 0 of the row below it, all from there on
+  -- blank, and what is above as it was.
+  abbrev pub LeavesBelow : ℕ → List (Station V) → Station V → Picture → List Batch → Type 0
+  LeavesBelow w earlier station before end =
+      let after = play_batches w (batches_of (earlier ++ station ∷ [])) before in
+      IsClosed w (last_row w (first_row before.row (earlier ++ station ∷ [])) (sized_scene station).scene) after (play_batches w end after)
+
+  -- each painting, from the row on in which the screen is entered, or from row 0 on once it was cleared
+  abbrev pub RunIsFresh : Frame V → Type 0
+  RunIsFresh f = (w : ℕ) (earlier : List (Station V)) (station : Station V) (later : List (Station V)) (before : Picture)
+      → ReachesPlainly f w earlier station later before
+      → ShowsFresh f (run_of rules f).taken w (first_row before.row (earlier ++ station ∷ [])) earlier station before
+
+  -- the closing batch after each painting, wherever the run is stopped
+  abbrev pub RunStopsBelow : Frame V → Type 0
+  RunStopsBelow f = (w : ℕ) (earlier : List (Station V)) (station : Station V) (later : List (Station V)) (before : Picture)
+      → ReachesPlainly f w earlier station later before
+      → LeavesBelow w earlier station before (closing_batch (shots_at (earlier ++ station ∷ [])))
+
+  -- the run's own closing batch; also where the run then ends with the refusal of a painting, at a station at which
+  -- nothing is rendered
+  abbrev pub RunClosesBelow : Frame V → Type 0
+  RunClosesBelow f = (w : ℕ) (earlier : List (Station V)) (station : Station V) (later : List (Station V)) (before : Picture)
+      → ReachesPlainly f w earlier station later before → All RendersNothing later
+      → ((run_of rules f).taken ≡ f.terminal.batches ++ batches_of (earlier ++ station ∷ []))
+      × LeavesBelow w earlier station before (closing_if (run_of rules f).mark)
+
+  -- what a screen shows of the batches of a run, whatever stops it
+  pub record RunShows (f : Frame V) : Type 0 where
+    pub painting : RunIsFresh f
+    pub stopping : RunStopsBelow f
+    pub closing : RunClosesBelow f
+
+  -- ---- a call
+
+  -- a batch that comes after such paintings: a clearing, or the painting of the first of the other stations
+  abbrev pub IsNext : Option Mark → List (Station V) → Batch → Type 0
+  IsNext mark others batch =
+      (batch ≡ clear_batch)
+      ⊎ ((station : Station V) × (more : List (Station V)) × (p : Painting)
+      × (others ≡ station ∷ more) × (station_painting rules station ≡ Ok p) × (batch ≡ start_of mark ++ p.changes))
+
+  -- nothing, or the clearing before the first of the other stations
+  abbrev pub IsClearing : List (Station V) → List Batch → Type 0
+  IsClearing others cleared =
+      (cleared ≡ [])
+      ⊎ ((cleared ≡ clear_batch ∷ []) × ((station : Station V) × (more : List (Station V)) × (others ≡ station ∷ more) × (station.cleared ≡ true)))
+
+  -- On the way from f to g the run was stopped. Its first stations were painted, at least as many as events were taken.
+  -- The terminal took their batches; then a clearing, if there was one, and nothing or a beginning of the batch that
+  -- came next; and then the closing batch of the last painting, or a beginning of it.
+  pub record StopsAfter (f g : Frame V) : Type 0 where
+    pub painted : List (Station V)
+    pub others : List (Station V)
+    pub stations : stations_of rules f ≡ painted ++ others
+    pub are_painted : All (λ station. (p : Painting) × (station_painting rules station ≡ Ok p)) painted
+    pub enough : length f.terminal.events ≤ length g.terminal.events + length painted
+    pub cleared : List Batch
+    pub clears : IsClearing others cleared
+    pub part : List Batch
+    pub next : (part ≡ []) ⊎ ((batch : Batch) × IsNext (mark_after None (shots_at painted)) others batch × IsPart batch part)
+    pub end : List Batch
+    pub closing : IsClosing (mark_after None (shots_at painted)) end
+    pub taken : g.terminal.batches ≡ f.terminal.batches ++ (batches_of painted ++ (cleared ++ (part ++ end)))
+
   -- the first painting, by a call that begins a line
   abbrev pub ShowsFirst : Frame V → Frame V → Type 0
-  ShowsFirst f g = (w : ℕ) (station : Station V) (later : List (Station V)) (before : Picture) → ReachesPlainly f w [] station later before → ShowsFresh f g w before.row [] station before
+  ShowsFirst f g = (w : ℕ) (station : Station V) (later : List (Station V)) (before : Picture) → ReachesPlainly f w [] station later before
+      → ShowsFresh f g.terminal.batches w before.row [] station before
 
-  -- What it took after them leaves the cursor at column 0 of the row below the fresh painting, all from there on blank,
-  -- and what is above as it was.
+  -- what the terminal took after the painting closes it
   pub record ClosesBelow (f g : Frame V) (w : ℕ) (earlier : List (Station V)) (station : Station V) (before : Picture) : Type 0 where
     pub end : List Batch
     pub taken : g.terminal.batches ≡ f.terminal.batches ++ (batches_of (earlier ++ station ∷ []) ++ end)
-    pub closed : let after = play_batches w (batches_of (earlier ++ station ∷ [])) before in
-        IsClosed w (last_row w (first_row before.row (earlier ++ station ∷ [])) (sized_scene station).scene) after (play_batches w end after)
+    pub closed : LeavesBelow w earlier station before end
 
   module _ {A : Type 0} (f g : Frame V) (result : Result A Error) where
     -- the call painted the station after these: where it was stopped, it took an event after that station
@@ -113,7 +180,7 @@ module _ {V : Type 0} (rules : HostRules V) where
     pub record Shows : Type 0 where
       pub painting : (w : ℕ) (earlier : List (Station V)) (station : Station V) (later : List (Station V)) (before : Picture)
           → ReachesPlainly f w earlier station later before → HasPainted earlier
-          → ShowsFresh f g w (first_row before.row (earlier ++ station ∷ [])) earlier station before
+          → ShowsFresh f g.terminal.batches w (first_row before.row (earlier ++ station ∷ [])) earlier station before
       pub closing : (w : ℕ) (earlier : List (Station V)) (station : Station V) (later : List (Station V)) (before : Picture)
           → ReachesPlainly f w earlier station later before → All RendersNothing later → (IsStopped result → ⊥)
           → ClosesBelow f g w earlier station before

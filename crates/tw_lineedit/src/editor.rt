@@ -13,7 +13,7 @@ ghost use Rattle.tw_session.specs.Outcomes.{outcome_of};
 ghost use Rattle.tw_session.specs.SessionView.{new_session, on_state};
 ghost use Rattle.tw_session.specs.Refusal.{IsMemory};
 ghost use Rattle.tw_lineedit.specs.Frame.{across, frame, own_frame, IsSame};
-ghost use Rattle.tw_lineedit.specs.Lines.{BeginsWith, IsAnsweredWith, ReadsWith, ShowsWith};
+ghost use Rattle.tw_lineedit.specs.Lines.{BeginsWith, IsAnsweredWith, ReadsWith, RunShowsWith, ShowsWith, StopsWith};
 ghost use Rattle.tw_lineedit.specs.Lent.{EndsAs, editor_row, KeepsTerminal};
 ghost use Rattle.tw_lineedit.specs.EditorSteps.{Closes, FailsToClose, Paints, FailsToPaint, Applies, FailsToApply, Handles, FailsToHandle, HandlesAndPaints, FailsToHandleOrPaint, GivesUp};
 ghost use Rattle.tw_lineedit.specs.Feeding.{Begins, IsNotBegun, IsRefusedOn, Continues, IsEnded, IsAnsweredOn};
@@ -371,6 +371,11 @@ impl<'term, T: Terminal> LineEditor<'term, T> {
         ensures shows { self.old.session.state.mode ≡ Inactive
             → across T.state H.value (ShowsWith H.rules (initial_text initial_value.entry))
             self.old host.old self.new host.new result }
+        ensures run { RunShowsWith H.rules (initial_text initial_value.entry)
+            (frame T.state H.value self.old host.old) }
+        ensures stopped { self.old.session.state.mode ≡ Inactive
+            → across T.state H.value (StopsWith H.rules (initial_text initial_value.entry))
+            self.old host.old self.new host.new result }
         ensures failures { FailuresTell result (T.state self.old.terminal.now).failures
             (T.state self.new.terminal.now).failures }
     {
@@ -394,6 +399,11 @@ impl<'term, T: Terminal> LineEditor<'term, T> {
             self.old host.old self.new host.new) }
         ensures shows { self.old.session.state.mode ≡ Inactive
             → across T.state H.value (ShowsWith H.rules None)
+            self.old host.old self.new host.new result }
+        ensures run { RunShowsWith H.rules None
+            (frame T.state H.value self.old host.old) }
+        ensures stopped { self.old.session.state.mode ≡ Inactive
+            → across T.state H.value (StopsWith H.rules None)
             self.old host.old self.new host.new result }
         ensures failures { FailuresTell result (T.state self.old.terminal.now).failures
             (T.state self.new.terminal.now).failures }

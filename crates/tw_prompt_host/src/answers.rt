@@ -101,7 +101,8 @@ pub fn judged(
     default: Option<&Action>,
 ) -> (Verdict, Option<Action>)
     requires { lent_action default ≡ action_of (event_view event.now) }
-    ensures verdict { let answer = or_default (option_map action_view action) (event_view event.now) in
+    ensures verdict { let answer =
+        or_default (option_map action_view action) (event_view event.now) in
         result.0 ≡ verdict_on accepting lines answer }
     ensures action { option_map action_view result.1
         ≡ said result.0 (option_map action_view action) }

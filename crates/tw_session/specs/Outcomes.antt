@@ -1,5 +1,5 @@
 -- How a run ends.
-use Rattle.std.specs.Prelude.{ℕ, Bool, true, false, List, Option, Some, None, Result, Ok, Err, String, string_bytes, option_map}
+use Rattle.std.specs.Prelude.{◌≢◌, ℕ, [], Bool, true, false, List, Option, Some, None, Result, Ok, Err, String, string_bytes, option_map}
 use Rattle.std.specs.declared.alloc.Global.{Global}
 use Rattle.tw_session.specs.Refusal.{Refusal, refusal_of}
 use Rattle.tw_session.specs.EditState.{EditState, ModeView, Editing, Cancelled, Accepted, Searching}
@@ -24,11 +24,11 @@ line_in cut _ = Some cut.line
 abbrev pub answer_at : EditState → Outcome
 answer_at s = Ok (line_in s.cut s.mode)
 
--- the outcome is a line
-abbrev pub IsLine : Outcome → Type 0
-IsLine (Ok (Some line)) = Unit {0}
-IsLine (Ok None) = ⊥
-IsLine (Err r) = ⊥
+-- a copy of the outcome's line takes memory: there is one, and it is not empty
+abbrev pub TakesMemoryToCopy : Outcome → Type 0
+TakesMemoryToCopy (Ok (Some line)) = line ≢ []
+TakesMemoryToCopy (Ok None) = ⊥
+TakesMemoryToCopy (Err r) = ⊥
 
 -- a mode at which a run ends
 abbrev pub is_over : ModeView → Bool

@@ -7,7 +7,7 @@ ghost use Rattle.tw_input.specs.EventView.{event_view};
 ghost use Rattle.tw_host.specs.ActionView.{action_view};
 ghost use Rattle.tw_line.specs.Cut.{cut_at, empty_cut};
 ghost use Rattle.tw_session.specs.EditState.{Inactive as InactiveView};
-ghost use Rattle.tw_session.specs.Outcomes.{outcome_of, answer_at, IsLine, is_over, is_open};
+ghost use Rattle.tw_session.specs.Outcomes.{outcome_of, answer_at, TakesMemoryToCopy, is_over, is_open};
 ghost use Rattle.tw_session.specs.Painting.{painted_on, scene_of, shown_in, rendering_of};
 ghost use Rattle.tw_session.specs.DrawSteps.{IsUnpainted};
 
@@ -231,14 +231,18 @@ impl Session {
         Ok(())
     }
 
-    /// Returns the answer at the end of a run: a copy of the line, or none where the run was cancelled.
+    /// Returns the answer at the end of a run: a copy of the line, or `None` if the run was cancelled. Never allocates for
+    /// the empty line.
     pub fn answer(&self) -> Result<Option<String>, AllocError>
         ensures ok { IfOk result (λ line. outcome_of (Ok line) ≡ answer_at self.now.state) }
-        ensures err { OnErr result (IsLine (answer_at self.now.state)) }
+        ensures err { OnErr result (TakesMemoryToCopy (answer_at self.now.state)) }
     {
         match self.mode {
             Mode::Cancelled => Ok(None),
             Mode::Inactive | Mode::Editing | Mode::Accepted | Mode::Searching { .. } => {
+                if self.line.get_line().is_empty() {
+                    return Ok(Some(String::new(self.alloc)));
+                }
                 let line = String::from_str(self.alloc, self.line.get_line())?;
                 Ok(Some(line))
             }

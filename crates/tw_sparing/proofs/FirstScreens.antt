@@ -18,6 +18,7 @@ use Rattle.tw_ansi.specs.EcmaScreen.{EcmaScreen, receive_all}
 use Rattle.tw_ansi.specs.EcmaLaws.{IsColor}
 use Rattle.tw_ansi.specs.EcmaTexts.{ShowsPicture}
 use Rattle.tw_ansi.specs.EcmaBatches.{IsReached, AreSendable}
+use Rattle.tw_ansi.proofs.JoinedMarks.{styled_join}
 use Rattle.tw_ansi.proofs.EcmaBatches.{batch_is_shown}
 use Rattle.tw_changed.specs.Differences.{blank_cell}
 use Rattle.tw_sparing.specs.declared.shown.Shown.{Shown}
@@ -120,7 +121,7 @@ module _ (h w : ℕ) (new : Shown) where
       let drawn : PictureOf StyledCell = steps_on (Some h) w (strokes_of styled e.attributes batch) p in
       let above : new.reached - h ≤ new.screen.row = fits.row in
       record {
-        picture = batch_is_shown styled h w batch e t p follows some small sendable a;
+        picture = batch_is_shown styled h w batch e t p follows styled_join some small sendable a;
         fits = fits;
         width = spans.width;
         from = stands_at h w s first new drawn spans;

@@ -1,6 +1,5 @@
 -- What is known of a terminal and what the terminal shows stay parts of one picture while a batch is played.
-use Rattle.std.proofs.Common.{◌≡◌, ◌<◌, ◌+◌, ◌-◌, ℕ, pos, negsuc, Some, [], ◌∷◌, ◌++◌, map, append-nil, ap, subst, ◌∙◌, sym, arith}
-use Rattle.std.specs.Prelude.{chars}
+use Rattle.std.proofs.Common.{◌≡◌, ◌<◌, ◌+◌, ◌-◌, ℕ, pos, negsuc, Some, List, [], ◌∷◌, ap, subst, ◌∙◌, sym, arith}
 use Rattle.tw_surface.specs.declared.color.ColorAttribute.{ColorAttribute}
 use Rattle.tw_surface.specs.declared.change.Position.{Position}
 use Rattle.tw_surface.specs.declared.change.Position.TheVariants.{Absolute, Relative}
@@ -9,13 +8,14 @@ use Rattle.tw_surface.specs.ChangeView.{Attribute, AllAttributes, Text, ClearScr
 use Rattle.laws_screens.specs.Strokes.{PictureOf, Stroke, step, steps, steps_on, scrolled}
 use Rattle.laws_screens.specs.Strokes.Stroke.{Move, ClearBehind}
 use Rattle.laws_screens.proofs.SeenRows.{steps_on-append}
-use Rattle.laws_screens.specs.Pens.{led, char_stroke, change_strokes, strokes_of, kept_after}
+use Rattle.laws_screens.specs.Glyphs.{glyphs}
+use Rattle.laws_screens.specs.Pens.{led, change_strokes, strokes_of, kept_after}
 use Rattle.laws_screens.specs.StyledCells.{StyledCell, styled}
-use Rattle.laws_screens.proofs.PlainScenes.{plain_chars}
 use Rattle.tw_changed.specs.StyledScreens.{ShowsStyled}
 use Rattle.tw_sparing.specs.declared.shown.Shown.{Shown}
 use Rattle.tw_sparing.specs.Shown.{left_behind, IsInSight, IsPlayedOnce, IsPlayed}
-use Rattle.tw_sparing.proofs.SpannedPictures.{IsSpanned, seen_row, text_spans, still_spans, clear_spans, move_spans, led_up}
+use Rattle.tw_sparing.proofs.TypedPictures.{glyphs_type}
+use Rattle.tw_sparing.proofs.SpannedPictures.{IsSpanned, seen_row, typing_spans, still_spans, clear_spans, move_spans, led_up}
 
 module _ (h w s : ℕ) (first : PictureOf StyledCell) where
   module _ (old new : Shown) (p : PictureOf StyledCell) (a : IsSpanned h w s first old p) where
@@ -48,11 +48,9 @@ module _ (h w s : ℕ) (first : PictureOf StyledCell) where
 
     pub change_spans : (x : ChangeView) → IsPlayedOnce h x old new → IsSpanned h w s first new (steps_on (Some h) w (change_strokes styled old.screen.kept x) p)
     change_spans (Text text) is =
-        let stroke : ℕ → Stroke StyledCell = char_stroke styled old.screen.kept in
-        let same : map stroke (chars text) ++ [] ≡ map stroke text = append-nil (map stroke (chars text)) ∙ ap (map stroke) (plain_chars text is.playable) in
-        text_spans h w s first old new p a is.reached is.drawn.width old.screen.kept text
-        (subst (λ n. ShowsStyled new.screen (steps n (map stroke text) a.part)) a.width
-        (subst (λ strokes. ShowsStyled new.screen (steps old.screen.width strokes a.part)) same (is.drawn.drawn a.part a.screen)))
+        let strokes : List (Stroke StyledCell) = change_strokes styled old.screen.kept (Text text) in
+        typing_spans h w s first old new p a is.reached is.drawn.width strokes (glyphs_type styled old.screen.kept (glyphs text))
+        (subst (λ n. ShowsStyled new.screen (steps n strokes a.part)) a.width (is.drawn.drawn a.part a.screen))
     change_spans (Attribute change) is = still_spans h w s first old new p a is.reached is.drawn.width (is.drawn.drawn a.part a.screen)
     change_spans (AllAttributes to) is = still_spans h w s first old new p a is.reached is.drawn.width (is.drawn.drawn a.part a.screen)
     change_spans (ClearScreen color) is = absurd is.playable

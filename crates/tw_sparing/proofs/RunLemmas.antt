@@ -19,6 +19,7 @@ use Rattle.tw_ansi.specs.EcmaScreen.{EcmaScreen, receive_all}
 use Rattle.tw_ansi.specs.EcmaTexts.{ShowsPicture}
 use Rattle.tw_ansi.proofs.EcmaSequences.{received}
 use Rattle.tw_ansi.proofs.EcmaPaintings.{batches_are_shown}
+use Rattle.tw_ansi.proofs.JoinedMarks.{styled_join}
 use Rattle.tw_ansi.proofs.EcmaBatches.{batch_is_shown, keeps_change}
 use Rattle.tw_sparing.specs.declared.shown.Shown.{Shown}
 use Rattle.tw_sparing.specs.Shown.{first_shown, goes_out_of_sight, rows_above, IsKnownAfter, IsKnownBy, IsPlayed, IsBegunBy, IsShortMove, SetsAttributes, sent_for}
@@ -73,7 +74,7 @@ module _ (h w : ℕ) where
       let drawn : PictureOf StyledCell = steps_on (Some h) w (strokes_of styled e.attributes batch) p in
       record {
         shown = subst (λ (x : Sent). ShowsPicture styled h w x.next (receive_all styled h w x.bytes t) drawn) (sym is)
-            (batch_is_shown styled h w batch e t p follows some small fits a);
+            (batch_is_shown styled h w batch e t p follows styled_join some small fits a);
         attributes = ap (λ (x : Sent). x.next.attributes) is ∙ sym (keeps_all batch e p fits);
       }
 
@@ -165,7 +166,7 @@ module _ (h w : ℕ) where
       (runs_keep calls old e t p some small known a ∙ ap (λ k. kept_over k (batches_among calls)) (sym same) ∙ sym (wholes_keep (batches_among calls) f p fits))
       (picture_of h w mine.next (receive_all styled h w mine.bytes t) end (last_known old calls) (runs calls old e t p some small known a))
       (subst (λ k. ShowsPicture styled h w its.next (receive_all styled h w its.bytes u) (play_sized (Some h) false styled w k (sized_at w (batches_among calls)) p)) same
-      (batches_are_shown styled h w (batches_among calls) f u p follows some small fits b))
+      (batches_are_shown styled h w (batches_among calls) f u p follows styled_join some small fits b))
 
 pub runs_are_shown : RunsAreShown
 runs_are_shown h w calls old e t p some small known a = runs h w calls old e t p some small known a

@@ -17,6 +17,7 @@ use Rattle.tw_ansi.specs.Encoding.{sent_change, sent_batch}
 use Rattle.tw_ansi.specs.EcmaLaws.{IsColor, IsAttribute}
 use Rattle.tw_ansi.specs.EcmaBatches.{CarriesAttributes, IsReached, IsSendable, AreSendable}
 use Rattle.tw_ansi.proofs.EcmaBatches.{keeps_change}
+use Rattle.tw_ansi.proofs.EcmaPaintings.{plain_sent}
 use Rattle.tw_changed.specs.ChangedScreens.{AreByBytes}
 use Rattle.tw_sparing.specs.declared.shown.Shown.{Shown}
 use Rattle.tw_sparing.specs.Shown.{left_behind, IsInSight, IsPlayable, IsPlayedOnce, IsPlayed}
@@ -61,7 +62,7 @@ module _ (h w s : ℕ) (first : PictureOf StyledCell) where
         omega (arith, sight, row, low, is.reached, most)
 
     pub change_sendable : (x : ChangeView) → IsPlayedOnce h x old new → IsSendable styled h w e x p
-    change_sendable (Text text) is = is.playable
+    change_sendable (Text text) is = plain_sent w text is.playable
     change_sendable (Attribute change) is = is.playable
     change_sendable (AllAttributes to) is = is.playable
     change_sendable (ClearScreen c) is = absurd is.playable

@@ -1,20 +1,19 @@
 -- What is known of a terminal and what the terminal shows are parts of one picture without a bottom, and stay so while
 -- changes are played.
-use Rattle.std.proofs.Common.{◌≡◌, ◌<◌, ◌≤◌, ◌+◌, ◌-◌, ◌&&◌, ◌||◌, ℕ, ℤ, pos, negsuc, ◌+ℤ◌, max, min, Bool, true, false, cond, eqb, ltb, leb, None, Some, List, map, inl, inr, ap, subst, ◌∙◌, sym, refl, arith}
+use Rattle.std.proofs.Common.{◌≡◌, ◌<◌, ◌≤◌, ◌+◌, ◌-◌, ◌&&◌, ◌||◌, ℕ, ℤ, pos, negsuc, ◌+ℤ◌, max, min, Bool, true, false, cond, eqb, ltb, leb, None, Some, List, inl, inr, ap, subst, ◌∙◌, sym, refl, arith}
 use Rattle.std.specs.List.{list_all}
 use Rattle.std.proofs.lemmas.Bool.{ne_eqb, le-ltb}
 use Rattle.std.proofs.lemmas.Int.{ints}
-use Rattle.tw_surface.specs.declared.cell.CellAttributes.{CellAttributes}
 use Rattle.tw_surface.specs.declared.change.Position.TheVariants.{Relative}
 use Rattle.laws_screens.specs.Strokes.{PictureOf, Stroke, cleared_in, step, steps, steps_on, scrolled}
 use Rattle.laws_screens.specs.Strokes.Stroke.{Move}
-use Rattle.laws_screens.proofs.SeenRows.{Sees, sees-typing, sees-clear, sees-still, sees-scrolled}
-use Rattle.laws_screens.specs.Pens.{led, char_stroke}
-use Rattle.laws_screens.specs.StyledCells.{StyledCell, styled}
+use Rattle.laws_screens.proofs.SeenRows.{Sees, is_typing, sees-typing, sees-clear, sees-still, sees-scrolled}
+use Rattle.laws_screens.specs.Pens.{led}
+use Rattle.laws_screens.specs.StyledCells.{StyledCell}
 use Rattle.tw_changed.specs.StyledScreens.{ShowsStyled}
 use Rattle.tw_changed.specs.Differences.{blank_cell}
 use Rattle.tw_sparing.specs.declared.shown.Shown.{Shown}
-use Rattle.tw_sparing.proofs.TypedPictures.{typing_keeps, steps_on-none, text_types}
+use Rattle.tw_sparing.proofs.TypedPictures.{typing_keeps, steps_on-none}
 
 -- where the terminal's picture begins in the whole one, whose row s is the first one of what is known
 abbrev pub seen_row : ℕ → ℕ → Shown → ℕ
@@ -59,11 +58,9 @@ module _ (h w s : ℕ) (first : PictureOf StyledCell) where
   -- ---- one change
 
   module _ (old new : Shown) (p : PictureOf StyledCell) (a : IsSpanned h w s first old p) (reached : new.reached ≡ max old.reached (new.screen.row + 1)) (same : new.screen.width ≡ old.screen.width) where
-    pub text_spans : (kept : CellAttributes) (text : List ℕ) → ShowsStyled new.screen (steps w (map (char_stroke styled kept) text) a.part)
-        → IsSpanned h w s first new (steps_on (Some h) w (map (char_stroke styled kept) text) p)
-    text_spans kept text shows =
-        let strokes : List (Stroke StyledCell) = map (char_stroke styled kept) text in
-        let types : list_all _ strokes ≡ true = text_types styled kept text in
+    pub typing_spans : (strokes : List (Stroke StyledCell)) → list_all is_typing strokes ≡ true → ShowsStyled new.screen (steps w strokes a.part)
+        → IsSpanned h w s first new (steps_on (Some h) w strokes p)
+    typing_spans strokes types shows =
         let part = typing_keeps w strokes a.part types in
         let whole = typing_keeps w strokes a.whole types in
         let v : PictureOf StyledCell = steps w strokes a.part in

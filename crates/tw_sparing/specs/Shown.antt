@@ -8,8 +8,7 @@ use Rattle.tw_surface.specs.Characters.{is_plain}
 use Rattle.tw_surface.specs.Defaults.{default_color}
 use Rattle.tw_surface.specs.ChangeView.{ChangeView, Batch}
 use Rattle.tw_surface.specs.ChangeView.{Attribute, AllAttributes, Text, ClearScreen, ClearToEndOfScreen, CursorPosition}
-use Rattle.tw_surface.specs.Simple.{spelled_all}
-use Rattle.laws_screens.specs.Pens.{led, strokes_of, kept_after_all}
+use Rattle.laws_screens.specs.Pens.{led, change_strokes, kept_after}
 use Rattle.laws_screens.specs.Strokes.Stroke.{ClearBehind}
 use Rattle.laws_screens.specs.StyledCells.{styled}
 use Rattle.tw_ansi.specs.declared.encode.Encoder.{Encoder}
@@ -59,11 +58,11 @@ pub record FitsTerminal (rows : ℕ) (shown : Shown) : Type 0 where
 
 -- ---- what is drawn on it
 
--- a batch was drawn on a screen: its cells and cursor, and its attributes
-pub record IsDrawn (batch : Batch) (old new : StyledView) : Type 0 where
+-- a change was drawn on a screen: its cells and cursor, and its attributes
+pub record IsDrawn (change : ChangeView) (old new : StyledView) : Type 0 where
   pub width : new.width ≡ old.width
-  pub drawn : AreDrawn old (strokes_of styled old.kept (spelled_all batch)) new
-  pub kept : new.kept ≡ kept_after_all styled old.kept batch
+  pub drawn : AreDrawn old (change_strokes styled old.kept change) new
+  pub kept : new.kept ≡ kept_after styled old.kept change
 
 -- a move to a row of those that are in sight, so many of them above the cursor
 abbrev pub IsInSight : ℕ → Position → Type 0
@@ -84,7 +83,7 @@ IsPlayable rows shown (CursorPosition x y) = IsInSight (rows_above rows shown) y
 -- such a change was drawn, and the row of the cursor is reached
 pub record IsPlayedOnce (rows : ℕ) (change : ChangeView) (old new : Shown) : Type 0 where
   pub playable : IsPlayable rows old change
-  pub drawn : IsDrawn (change ∷ []) old.screen new.screen
+  pub drawn : IsDrawn change old.screen new.screen
   pub reached : new.reached ≡ max old.reached (new.screen.row + 1)
 
 -- the changes of a batch were played, one after the other

@@ -171,7 +171,8 @@ impl<W: Write> Terminal for SparingTerminal<W> {
     fn flush(&mut self) -> Result<(), TerminalFault>
         ensures ok { OnOk result (Flushes (sparing_state self.old) (sparing_state self.new)) }
         ensures err { OnErr result (Fails (sparing_state self.old) (sparing_state self.new)) }
-        ensures kept { self.new ≡ record self.old { writer = self.new.writer; sent = self.new.sent } }
+        ensures kept { self.new
+            ≡ record self.old { writer = self.new.writer; sent = self.new.sent } }
         ensures writer { Keeps (W.contents self.old.writer)
             (W.contents self.new.writer) }
         ensures follows { DoesSparingly W.contents self.old self.new (Called Other) }

@@ -11,7 +11,7 @@ use Rattle.tw_surface.specs.ChangeView.{Attribute, AllAttributes, Text, ClearScr
 use Rattle.tw_surface.specs.Positions.{at_least_0}
 use Rattle.tw_surface.specs.Places.{Place, pieces, next_place, places_after, end_of_pieces, place_after, place_after_all, places_of_change, places_of_all, origin, is_in_range, stays_in_range, move_between}
 use Rattle.tw_surface.specs.Drawings.{Drawing, place, greatest, least, height}
-use Rattle.tw_surface.specs.Extents.{place_of, reach, reach_all, extent_after, extent_after_all, start_extent, IsMeasured}
+use Rattle.tw_surface.specs.Extents.{place_of, reach, reach_all, extent_after, extent_after_all, start_extent, IsExtentOf}
 use Rattle.tw_surface.proofs.ExtentLemmas.{sound-reach_all}
 
 -- the last place of a list of pieces
@@ -97,22 +97,22 @@ stays_in_range-move_between cols from to h k f =
     ap (λ p. is_in_range p && true) (place_after-move_between cols from to h) ∙ ap (λ b. b && true) to_is
 
 -- what is measured of a drawing is its place
-pub place_of-measured : (d : Drawing) (t : Extent) → IsMeasured d.cols d.changes t → place_of t ≡ place d
+pub place_of-measured : (d : Drawing) (t : Extent) → IsExtentOf d.cols d.changes t → place_of t ≡ place d
 place_of-measured d t h = ap place_of h.extent ∙ place_of-extent_after_all d.cols d.changes start_extent
 
 -- and its height
-pub height-measured : (d : Drawing) (t : Extent) → IsMeasured d.cols d.changes t → nat_abs (t.greatest -ℤ t.least) ≡ height d.cols d.changes
+pub height-measured : (d : Drawing) (t : Extent) → IsExtentOf d.cols d.changes t → nat_abs (t.greatest -ℤ t.least) ≡ height d.cols d.changes
 height-measured d t h = ap (λ u. nat_abs (u.greatest -ℤ u.least)) h.extent ∙ sym (height-extent d.cols d.changes)
 
 -- and whether the next change stays in range
-pub stays-measured : (d : Drawing) (t : Extent) (change : ChangeView) (b : Bool) → IsMeasured d.cols d.changes t
+pub stays-measured : (d : Drawing) (t : Extent) (change : ChangeView) (b : Bool) → IsExtentOf d.cols d.changes t
     → list_all is_in_range (places_of_change d.cols change (place_of t)) ≡ b → stays_in_range d.cols change (place d) ≡ b
 stays-measured d t change b h e = ap (λ p. stays_in_range d.cols change p) (sym (place_of-measured d t h)) ∙ e
 
 -- one change more is measured
-pub measured-add : (d : Drawing) (t next : Extent) (change : ChangeView) (changes : Batch) → IsMeasured d.cols d.changes t
+pub measured-add : (d : Drawing) (t next : Extent) (change : ChangeView) (changes : Batch) → IsExtentOf d.cols d.changes t
     → list_all is_in_range (places_of_change d.cols change (place_of t)) ≡ true → next ≡ extent_after d.cols change t → changes ≡ d.changes ++ change ∷ []
-    → IsMeasured d.cols changes next
+    → IsExtentOf d.cols changes next
 measured-add d t next change changes h a e g = record {
   some_columns = h.some_columns;
   columns = h.columns;

@@ -48,7 +48,7 @@ Measures t ps result =
     (λ r. (list_all is_in_range ps ≡ true) × (r ≡ reach_all t ps) × (is_in_range (place_of r) ≡ true))
 
 -- what the measure of a sequence remembers
-pub record IsMeasured (cols : ℕ) (changes : Batch) (t : Extent) : Type 0 where
+pub record IsExtentOf (cols : ℕ) (changes : Batch) (t : Extent) : Type 0 where
   pub some_columns : 0 < cols
   pub columns : cols ≤ 65535
   pub extent : t ≡ extent_after_all cols changes start_extent

@@ -22,4 +22,3 @@ pub mod ScrollingLaws
 pub mod Cells
 pub mod ScreenSteps
 pub mod ScrollingScreens
-pub mod Simple

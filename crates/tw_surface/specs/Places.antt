@@ -53,6 +53,11 @@ pub record BeginsWithPiece (text : List ℕ) (piece : Piece) (rest : List ℕ) :
 unfoldable pub pieces : List ℕ → List Piece
 pieces text = if list_all is_plain text then map plain_piece text else map cluster_piece (graphemes true text)
 
+-- the cell in which something of this width begins after a place: there, or where it does not fit the first cell of
+-- the next row
+abbrev pub begins_at : ℕ → ℕ → Place → Place
+begins_at cols width p = if leb (p.x + width) cols then p else record { x = 0; y = p.y +ℤ pos 1 }
+
 -- a piece of v columns that fits stays in its row
 pub record FitsAt (cols v : ℕ) (p q : Place) : Type 0 where
   pub room : p.x + v ≤ cols

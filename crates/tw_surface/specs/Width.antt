@@ -1,10 +1,13 @@
 -- The columns that a text takes.
-use Rattle.std.specs.Prelude.{ℕ, false, if◌then◌else◌, List, length, chars}
+use Rattle.std.specs.Prelude.{ℕ, true, false, if◌then◌else◌, List, length, chars, unwrap_or}
 use Rattle.std.specs.List.{list_all, sum_by}
 use Rattle.unicode_segmentation.specs.Grapheme.{graphemes}
-use Rattle.unicode_width.specs.Width.{str_width}
+use Rattle.unicode_width.specs.Width.{char_width, str_width}
 use Rattle.tw_surface.specs.Characters.{is_printable}
-use Rattle.std.specs.Prelude.{true}
+
+-- the columns of a character by itself: none for a control character
+abbrev pub char_columns : ℕ → ℕ
+char_columns c = unwrap_or (char_width false c) 0
 
 -- the columns of a grapheme cluster
 abbrev pub cluster_width : List ℕ → ℕ

@@ -93,13 +93,13 @@ pub struct ChangeSequence {
 impl Model for ChangeSequence {
     ghost use Rattle.tw_surface.specs.ChangeView.{batch_view};
     ghost use Rattle.tw_surface.specs.Drawings.{Drawing};
-    ghost use Rattle.tw_surface.specs.Extents.{IsMeasured};
+    ghost use Rattle.tw_surface.specs.Extents.{IsExtentOf};
 
     ghost Value = { Drawing };
 
     ghost view = { λ s. record { cols = s.cols; changes = batch_view s.changes.items } };
 
-    ghost invariant = { λ s. IsMeasured s.cols (batch_view s.changes.items) s.reached };
+    ghost invariant = { λ s. IsExtentOf s.cols (batch_view s.changes.items) s.reached };
 }
 
 impl ChangeSequence {

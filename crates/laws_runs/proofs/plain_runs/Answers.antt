@@ -1,4 +1,4 @@
-use Rattle.laws_runs.proofs.PlainRunLemmas.{run_is_fresh, closes_below}
+use Rattle.tw_lineedit.proofs.ScreenRunLemmas.{run_is_fresh, closes_below}
 use Rattle.laws_runs.proofs.plain_runs.Goals as goal
 
 pub returns-clause-painting : goal.returns-clause-painting

@@ -148,6 +148,9 @@ const CHANGES: &str = r"
 
 // other texts are sent by clusters
 4; text \u{4e00}\e[\u{9b}e\u{301}\r\nx => \u{4e00}?[?e\u{301}\r\nx
+
+// a character goes to the next row, also after a mark
+3; text abc\n\u{301}d => abc\n\r\e[2C\u{301}\r\nd
 ";
 
 #[test]

@@ -1,10 +1,9 @@
 //! The functions of an application, asked while a line is read.
 
-use ecma_terminal::EcmaTerminal;
+use ecma_terminal::{EcmaTerminal, TerminalCell};
 use std::alloc::{AllocError, Global};
 use std::test::Fail;
 use test_cases::{bytes_of, expect_rows, hold};
-use tw_changed::ScreenCell;
 use tw_device::{AnsiTerminal, Answer, DeviceTerminal, KeyReader, Pasted};
 use tw_key_parts::KeyPart;
 use tw_line::BasicHistory;
@@ -39,7 +38,7 @@ impl Application for Clerk {
 
 /// Returns the rows of a screen that receives these bytes, separated by `/`, without the blanks at their ends.
 pub fn rows_shown(alloc: Global, bytes: &[u8]) -> Result<String, Fail> {
-    let blank = ScreenCell::blank(ColorAttribute::Default);
+    let blank = TerminalCell::blank(ColorAttribute::Default);
     let mut terminal = EcmaTerminal::new(alloc, SIZE.rows, SIZE.cols, blank).or(Err("no size"))?;
     terminal.receive_all(bytes).or(Err("refused bytes"))?;
     let mut shown = String::new(alloc);
@@ -47,7 +46,9 @@ pub fn rows_shown(alloc: Global, bytes: &[u8]) -> Result<String, Fail> {
         let mut text = String::new(alloc);
         for col in 0..SIZE.cols {
             let cell = terminal.cell(row, col).ok_or("no cell")?;
-            text.push(cell.character)?;
+            let bytes = cell.number.to_be_bytes();
+            let unused = bytes.iter().take_while(|byte| **byte == 0).count();
+            text.push_str(str::from_utf8(&bytes[unused..]).or(Err("no text"))?)?;
         }
         shown.push_str(text.as_str().trim_end())?;
         shown.push('/')?;

@@ -1,10 +1,10 @@
+use Rattle.tw_surface.specs.Width.{char_columns}
 use Rattle.std.proofs.Common.{◌==◌, ◌+◌, ◌^◌, ◌-◌, ◌<◌, ◌∙◌, length, min, not, arith, rules, tests}
 use Rattle.std.specs.Str.{chars}
 use Rattle.std.proofs.lemmas.Bool.Decides.{nat_tests}
 use Rattle.std.proofs.lemmas.Iterator.{YieldsList-from_chars}
 use Rattle.std.proofs.lemmas.Iterator.Consumers.{fold_from_yields_List}
 use Rattle.std.proofs.lemmas.Iterator.Search.{all_from_yields_List}
-use Rattle.tw_hosts.specs.Settling.{char_columns}
 use Rattle.tw_hosts.proofs.SettlingLemmas.{saturated}
 use Rattle.tw_hosts.proofs.settling.is_parted.Goals as goal
 

@@ -1,6 +1,6 @@
 use Rattle.std.proofs.Common.{◌≡◌, ◌∙◌, refl, sym, ap, arith, rules}
 use Rattle.laws_screens.specs.StyledCells.{styled}
-use Rattle.tw_changed.specs.StyledScreens.{styled_cell}
+use Rattle.ecma_terminal.specs.Cells.{shown_cell}
 use Rattle.ecma_terminal.proofs.TerminalSteps.{same_rule, becomes_redrawn, led_there}
 use Rattle.ecma_terminal.proofs.terminal.EcmaTerminal.act_by.Goals as goal
 
@@ -43,7 +43,7 @@ pub returns-in-74-eq2 : goal.returns-in-74-eq2
 returns-in-74-eq2 c =
     rw (c.in-74-eq2.is-0, c.in-74-eq2.is-1, ← c.self.view_is)
     (same_rule _ _ _ _ (becomes_redrawn _ c.clear.new.self _ c.clear.ensures)
-    (λ t s. ap (λ a. record t { cell = λ r k. styled.paper a.background }) s.rendition ∙ ap (λ x. record t { cell = λ r k. styled_cell x }) (sym c.blank-paper.ensures)))
+    (λ t s. ap (λ a. record t { cell = λ r k. styled.paper a.background }) s.rendition ∙ ap (λ x. record t { cell = λ r k. shown_cell x }) (sym c.blank-paper.ensures)))
 
 pub returns-in-100-default : goal.returns-in-100-default
 returns-in-100-default c =

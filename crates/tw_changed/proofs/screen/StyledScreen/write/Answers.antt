@@ -5,7 +5,8 @@ use Rattle.laws_screens.specs.Pens.{char_stroke}
 use Rattle.laws_screens.specs.StyledCells.{styled}
 use Rattle.tw_changed.specs.StyledScreens.{AreDrawn, ShowsSame, WritesBeginning}
 use Rattle.tw_changed.proofs.DrawnCells.{same_shows}
-use Rattle.tw_changed.proofs.TypedOn.{printable_chars}
+use Rattle.laws_screens.proofs.PlainGlyphs.{plain_from_printable}
+use Rattle.tw_changed.proofs.TypedOn.{plain_chars}
 use Rattle.tw_changed.proofs.screen.StyledScreen.write.Goals as goal
 
 pub returns-then-goes_on-clause-shown : goal.returns-then-goes_on-clause-shown
@@ -13,7 +14,7 @@ returns-then-goes_on-clause-shown c =
     let old = c.args.self.now in
     let bytes = c.as_bytes-then-goes_on.ensures.value in
     let printable : list_all is_printable c.args.text.now ≡ true = subst (λ t. list_all is_printable t ≡ true) c.as_bytes.ensures.value (c.goes_on.ensures.printable c.if-goes_on.true) in
-    subst (λ t. OnOk c.type_on.result (AreDrawn old (map (char_stroke styled old.kept) t) c.type_on.new.self)) (bytes ∙ sym (printable_chars c.args.text.now printable)) c.type_on.ensures.shown
+    subst (λ t. OnOk c.type_on.result (AreDrawn old (map (char_stroke styled old.kept) t) c.type_on.new.self)) (bytes ∙ sym (plain_chars c.args.text.now (plain_from_printable c.args.text.now printable))) c.type_on.ensures.shown
 
 pub returns-then-goes_on-clause-refused : goal.returns-then-goes_on-clause-refused
 returns-then-goes_on-clause-refused c = refused c.type_on.result c.type_on.ensures.refused
