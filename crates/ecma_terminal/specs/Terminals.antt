@@ -3,7 +3,7 @@ use Rattle.std.specs.Prelude.{ℕ, ◌≡◌, ◌<◌, ◌≤◌, ◌+◌, ◌-�
 use Rattle.std.specs.Str.{IsUtf8}
 use Rattle.tw_surface.specs.declared.cell.CellAttributes.{CellAttributes}
 use Rattle.tw_surface.specs.Defaults.{default_attributes}
-use Rattle.laws_screens.specs.StyledCells.{StyledCell, number_of, styled}
+use Rattle.laws_screens.specs.StyledCells.{StyledCell, cluster_number, styled}
 use Rattle.tw_ansi.specs.EcmaScreen.{EcmaScreen, Reading, Text, Escaped, Parameters, Begun, receive_all, feed_line, return_to_start, is_whole_character, columns_of}
 use Rattle.tw_ansi.specs.KeyBytes.{is_parameter}
 use Rattle.ecma_terminal.specs.declared.fault.EcmaFault.{EcmaFault}
@@ -108,12 +108,13 @@ IsNoCharacter bytes = ¬ (IsUtf8 bytes) ⊎ (only_one (chars bytes) ≡ None)
 abbrev pub mark_col : TerminalView → ℕ
 mark_col view = (if view.waits then view.grid.cols else view.col) - view.last
 
--- a character is not written: its bytes are no character, it has more columns than there are, or its cell has more than
--- 16 bytes with it
+-- a character is not written: its bytes are no character, it has more columns than there are, or its cell would have more
+-- than 16 bytes
 abbrev pub IsUnwritten : EcmaFault → TerminalView → List ℕ → Type 0
 IsUnwritten Character view character = IsNoCharacter character
 IsUnwritten Wide view character = view.grid.cols < columns_of character
-IsUnwritten Full view character = (is_full view.grid view.row (mark_col view) character ≡ true) ⊎ (2 ^ 128 ≤ number_of character)
+IsUnwritten Full view character =
+    ((columns_of character ≡ 0) × (is_full view.grid view.row (mark_col view) character ≡ true)) ⊎ (2 ^ 128 ≤ cluster_number character)
 IsUnwritten _ view character = ⊥
 
 -- a byte is refused: for memory it is one more parameter or one more of a character, for a colour it ends a sequence with

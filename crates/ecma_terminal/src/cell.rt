@@ -1,7 +1,7 @@
 //! What a cell of a terminal holds.
 
 ghost use Rattle.std.specs.Prelude.{◌≡◌, ◌<◌, ◌≤◌, ◌^◌, None, SomeIff, IfSome};
-ghost use Rattle.laws_screens.specs.StyledCells.{number_from, number_of, styled};
+ghost use Rattle.laws_screens.specs.StyledCells.{number_from, cluster_number, styled};
 ghost use Rattle.ecma_terminal.specs.Cells.{cleared_cell, shown_cell};
 
 use tw_surface::{CellAttributes, ColorAttribute};
@@ -46,7 +46,7 @@ impl TerminalCell {
     /// Returns the first cell of a character, or `None` if it has more than 16 bytes.
     pub fn of(bytes: &[u8], attributes: CellAttributes) -> Option<Self>
         ensures shown { IfSome result (λ cell. shown_cell cell ≡ styled.ink attributes bytes.now) }
-        ensures full { result ≡ None → 2 ^ 128 ≤ number_of bytes.now }
+        ensures full { result ≡ None → 2 ^ 128 ≤ cluster_number bytes.now }
     {
         Some(TerminalCell {
             number: number_from(0, bytes)?,

@@ -41,7 +41,7 @@ use Rattle.laws_prompt.specs.Rows.{shown_cut}
 use Rattle.laws_prompt.specs.PlainRows.{HasPlainRows, first_row_changes, other_rows}
 use Rattle.laws_prompt.specs.RowCells.{ShowsLine, AnswersShownLine}
 use Rattle.laws_prompt.specs.LineRuns.{ComesToLine}
-use Rattle.laws_prompt.proofs.MeasuredRowLemmas.{plain_rows_are_rows}
+use Rattle.laws_prompt.proofs.PlainRowLemmas.{plain_rows_are_rows}
 use Rattle.laws_runs.proofs.DrawnRunLemmas.{drawn_calls_stack, drawn_paintings, drawn_closings, drawn_healings, healed_closings}
 use Rattle.laws_runs.proofs.WorkedParts.{all_low}
 use Rattle.laws_prompt.proofs.CellLemmas.{answers_show_lines}

@@ -23,7 +23,7 @@ use Rattle.tw_ansi.specs.declared.encode.Encoder.{Encoder}
 use Rattle.tw_ansi.specs.Encoding.{Sent, sent_return, sent_feed, sent_return_feed, sent_beginning, sent_columns, sent_byte, sent_cluster, sent_plain, sent_clusters, sent_text, sent_change, sent_clear, shown_as, column_of}
 use Rattle.tw_ansi.specs.Sequences.{sequence, to_column, to_row, clear_below, clear_rows, clear_with, up_a_row, set_attributes, set_attribute}
 use Rattle.tw_ansi.specs.EcmaLaws.{at_rest, IsColor, IsAttribute}
-use Rattle.tw_ansi.specs.EcmaScreen.{EcmaScreen, act_by, columns_of, feed_line, is_whole, receive_all, receive_by, return_to_start, write, write_here, write_character}
+use Rattle.tw_ansi.specs.EcmaScreen.{EcmaScreen, act_by, columns_of, feed_line, is_whole_character, receive_all, receive_by, return_to_start, write, write_here, write_character}
 use Rattle.tw_ansi.specs.EcmaScreen as terminal
 use Rattle.tw_ansi.specs.EcmaTexts.{are_marks, is_character, is_character_by, is_lone, is_sent, is_sent_cluster}
 use Rattle.tw_ansi.proofs.EcmaClearings.{clears_below, clears_rows}
@@ -137,7 +137,7 @@ module _ {A C : Type 0} (pen : Pen A C) where
         subst (λ u. Rests a (receive_all pen h w bytes u)) (sym (begins pen h w b t reading (leb-true _ _ both.0)))
         (marks-lead bytes (b ∷ []) a both.1 (record t { reading = terminal.Begun (b ∷ []) }) refl rendition)
     marks-lead (b ∷ bytes) (lead ∷ begun) a fits t reading rendition =
-        subst (λ u. Rests a (receive_all pen h w bytes u)) (sym (ap (λ r. receive_by pen h w r b t) reading)) (go (marks-lead bytes [] a) (marks-lead bytes mark a) (is_whole mark) fits)
+        subst (λ u. Rests a (receive_all pen h w bytes u)) (sym (ap (λ r. receive_by pen h w r b t) reading)) (go (marks-lead bytes [] a) (marks-lead bytes mark a) (is_whole_character mark) fits)
       where
         mark : List ℕ
         mark = lead ∷ (begun ++ b ∷ [])
@@ -156,7 +156,7 @@ module _ {A C : Type 0} (pen : Pen A C) where
     begun-leads : (width : ℕ) (bytes begun : List ℕ) (a : CellAttributes) → is_character_by width begun bytes ≡ true → (t : EcmaScreen C) → t.reading ≡ terminal.Begun begun → t.rendition ≡ a → Rests a (receive_all pen h w bytes t)
     begun-leads width [] begun a fits t reading rendition = absurd (false≢true fits)
     begun-leads width (b ∷ bytes) begun a fits t reading rendition =
-        subst (λ u. Rests a (receive_all pen h w bytes u)) (sym (ap (λ r. receive_by pen h w r b t) reading)) (go (begun-leads width bytes character a) (is_whole character) fits)
+        subst (λ u. Rests a (receive_all pen h w bytes u)) (sym (ap (λ r. receive_by pen h w r b t) reading)) (go (begun-leads width bytes character a) (is_whole_character character) fits)
       where
         character : List ℕ
         character = begun ++ b ∷ []
