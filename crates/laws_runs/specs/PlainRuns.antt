@@ -12,17 +12,33 @@ use Rattle.tw_lineedit.specs.ScreenRuns.{sized_scene, batches_of, is_cleared, fi
 use Rattle.tw_lineedit.specs.Stations.{Station}
 
 module _ {V : Type 0} (rules : HostRules V) where
+  -- a screen once some stations were painted, and once the closing batch of their run was played too
+  abbrev pub painted_screen : ℕ → List (Station V) → Picture → Picture
+  painted_screen w stations before = play_batches w (batches_of rules stations) before
+
+  abbrev pub closed_screen : Frame V → ℕ → List (Station V) → Picture → Picture
+  closed_screen f w stations before = play_batches w (closing_if (run_of rules f).mark) (painted_screen w stations before)
+
+  -- the row under the last one of these stations
+  abbrev pub row_under : ℕ → List (Station V) → Station V → Picture → ℕ
+  row_under w earlier station before = last_row w (first_row rules before.row (earlier ++ station ∷ [])) (sized_scene rules station).scene + 1
+
+  -- A station of a run is shown fresh from row s on, on a screen that was entered so, and above that row all is as on the
+  -- screen shown.
+  abbrev pub StandsUnder : Frame V → ℕ → ℕ → List (Station V) → Station V → Picture → Picture → Type 0
+  StandsUnder f w s earlier station entered shown =
+      ShowsFresh rules f (run_of rules f).taken w s earlier station entered
+      × IsSameAbove w s shown (painted_screen w (earlier ++ station ∷ []) entered)
+
   -- Two calls stack: a second run that clears nothing and enters the screen where the closing batch of a first one left
   -- it is fresh under that one's last painting, of which nothing is changed.
   abbrev pub CallsStack : Type 0
-  CallsStack = (f g : Frame V) (w : ℕ) (earlier : List (Station V)) (station : Station V) (none : List (Station V)) (others : List (Station V)) (second : Station V) (later : List (Station V)) (before : Picture)
+  CallsStack = (f g : Frame V) (w : ℕ) (earlier : List (Station V)) (station : Station V) (none others : List (Station V)) (second : Station V) (later : List (Station V)) (before : Picture)
       → ReachesPlainly rules f w earlier station none before → All (RendersNothing rules) none
-      → let shown = play_batches w (batches_of rules (earlier ++ station ∷ [])) before in
-      let entered = play_batches w (closing_if (run_of rules f).mark) shown in
-      let under = last_row w (first_row rules before.row (earlier ++ station ∷ [])) (sized_scene rules station).scene + 1 in
+      → let first = earlier ++ station ∷ [] in
+      let entered = closed_screen f w first before in
       ReachesPlainly rules g w others second later entered → is_cleared rules (others ++ second ∷ []) ≡ false
-      → ShowsFresh rules g (run_of rules g).taken w under others second entered
-      × IsSameAbove w under shown (play_batches w (batches_of rules (others ++ second ∷ [])) entered)
+      → StandsUnder g w (row_under w earlier station before) others second entered (painted_screen w first before)
 
   -- ---- for the run from any frame: what `read_line` says of its own
 
