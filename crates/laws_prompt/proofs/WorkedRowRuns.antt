@@ -1,6 +1,5 @@
--- Worked runs of a host that shows rows, by computation and by the clauses: on a screen that scrolls, and on one that
--- cuts its rows.
-use Rattle.std.proofs.Common.{◌≡◌, ℕ, zero, suc, ◌+◌, ◌≤◌, pos, List, [], ◌∷◌, take, drop, map, true, false, refl, None, Some, Ok, Err, Result, arith}
+-- Worked runs of a host that shows rows, by computation and by the clauses, on a screen that scrolls.
+use Rattle.std.proofs.Common.{◌≡◌, ℕ, zero, suc, ◌+◌, ◌≤◌, pos, List, [], ◌∷◌, take, drop, map, false, refl, None, Some, Ok, Err, Result, arith}
 use Rattle.std.proofs.lemmas.List.Elements.{All-nil}
 use Rattle.unicode_segmentation.proofs.Computing.{unicode_segmentation}
 use Rattle.laws_screens.specs.Glyphs.{glyphs}
@@ -18,14 +17,12 @@ use Rattle.laws_screens.specs.StyledCells.{characters}
 use Rattle.laws_screens.proofs.PaintedAlikeLemmas.{measured_is_itself}
 use Rattle.laws_screens.proofs.PlainScenes.{plain_is_measured}
 use Rattle.laws_screens.proofs.RowSceneLemmas.{rows_are_a_preview}
-use Rattle.tw_input.specs.EventView.{EventView, Key, Resized, Paste}
-use Rattle.tw_input.specs.declared.key.KeyCode.TheVariants.{Char}
+use Rattle.tw_input.specs.EventView.{EventView, Resized, Paste}
 use Rattle.tw_line.specs.Extremes.{iterate, greatest_below, least_from}
 use Rattle.tw_line.specs.Boundaries.{boundary_below, is_boundary}
 use Rattle.tw_line.specs.Cut.{Cut}
 use Rattle.tw_line.specs.Movements.{destination}
 use Rattle.tw_host.specs.HostRules.{HostRules, Highlight, Resolution, no_resolution, plain_rules, plain_text}
-use Rattle.tw_host.specs.KeyTable.{key_press}
 use Rattle.tw_hosts.specs.Settling.{settled_column, settled_pieces, needed_by_text}
 use Rattle.tw_session.specs.Painting.{painted_on}
 use Rattle.tw_session.specs.Refusal.{Refusal}
@@ -36,13 +33,13 @@ use Rattle.tw_lineedit.specs.Frame.{Frame}
 use Rattle.tw_lineedit.specs.Reading.{start}
 use Rattle.tw_lineedit.specs.ScreenRuns.{sized_scene, RendersNothing}
 use Rattle.tw_lineedit.specs.Stations.{Station, station_painting, stations_of}
-use Rattle.laws_runs.specs.DrawnRuns.{play_stations, play_since, closed_by, ComesMeasured, ComesHealed}
+use Rattle.laws_runs.specs.DrawnRuns.{play_stations, closed_by, ComesMeasured}
 use Rattle.laws_prompt.specs.Rows.{shown_cut}
 use Rattle.laws_prompt.specs.PlainRows.{HasPlainRows, first_row_changes, other_rows}
 use Rattle.laws_prompt.specs.RowCells.{ShowsLine, AnswersShownLine}
 use Rattle.laws_prompt.specs.LineRuns.{ComesToLine}
 use Rattle.laws_prompt.proofs.PlainRowLemmas.{plain_rows_are_rows}
-use Rattle.laws_runs.proofs.DrawnRunLemmas.{drawn_calls_stack, drawn_paintings, drawn_closings, drawn_healings, healed_closings}
+use Rattle.laws_runs.proofs.DrawnRunLemmas.{drawn_calls_stack, drawn_paintings, drawn_closings}
 use Rattle.laws_runs.proofs.WorkedParts.{all_low}
 use Rattle.laws_prompt.proofs.CellLemmas.{answers_show_lines}
 use Rattle.laws_prompt.proofs.LineRunLemmas.{lines_stand_in_rows}
@@ -276,105 +273,3 @@ stacked_by_clause =
 stacked_by_computing : (next_shown.row ≡ 4) × (next_shown.cell 3 2 ≡ 120) × (next_shown.cell 1 2 ≡ 103) × (next_shown.cell 2 3 ≡ 106)
 unfolding glyphs pieces column_width painted_on apply destination searched_again search_step boundary_below is_boundary iterate greatest_below least_from settled_pieces needed_by_text unicode_segmentation
 stacked_by_computing = (refl, refl, refl, refl)
-
--- ---- two rows are pasted at four columns, "ab" and "c", and then the screen has three
-
-abbrev cut_run : Frame ℕ
-cut_run = frame_with 4 (Paste (97 ∷ 98 ∷ 10 ∷ 99 ∷ []) ∷ Resized 3 24 ∷ [])
-
-abbrev cut_station : ℕ → Station ℕ
-cut_station n = nth (stations_of rules cut_run) n
-
-abbrev cut_at : ℕ → SizedScene
-cut_at n = sized_scene rules (cut_station n)
-
-cut_wide : 2 ≤ (cut_at 0).cols
-unfolding glyphs pieces column_width painted_on apply destination searched_again search_step boundary_below is_boundary iterate greatest_below least_from settled_pieces needed_by_text
-cut_wide = omega arith
-
-cut_plain : IsPlain (cut_at 0).scene
-unfolding glyphs pieces column_width painted_on apply destination searched_again search_step boundary_below is_boundary iterate greatest_below least_from settled_pieces needed_by_text
-cut_plain = record { prompt = refl; line = refl; lower = tt }
-
-cut_rows : HasPlainRows (cut_at 1).cols (cut_at 1).scene
-unfolding glyphs pieces column_width painted_on apply destination searched_again search_step boundary_below is_boundary iterate greatest_below least_from settled_pieces needed_by_text
-cut_rows = record { wide = omega arith; prompt = refl; line = refl; lower = tt; pair = refl; off_edge = λ e. (let off : 1 ≡ 0 = e in omega (arith, off)) }
-
-narrow_rows : HasPlainRows (cut_at 2).cols (cut_at 2).scene
-unfolding glyphs pieces column_width painted_on apply destination searched_again search_step boundary_below is_boundary iterate greatest_below least_from settled_pieces needed_by_text
-narrow_rows = record { wide = omega arith; prompt = refl; line = refl; lower = tt; pair = refl; off_edge = λ e. (let off : 1 ≡ 0 = e in omega (arith, off)) }
-
-comes_cut : ComesMeasured rules characters None cut_run (cut_station 0 ∷ cut_station 1 ∷ []) (cut_station 2) [] (cut_at 0 ∷ folded_at (cut_at 1) ∷ []) (folded_at (cut_at 2)) (full 1)
-unfolding glyphs pieces column_width painted_on apply destination searched_again search_step boundary_below is_boundary iterate greatest_below least_from settled_pieces needed_by_text
-comes_cut = record {
-  comes = record { nothing_painted = refl; stations = refl; painting = painting_in (station_painting rules (cut_station 2)); painted = refl };
-  alike = (plain_alike (cut_at 0) cut_wide cut_plain, (rows_alike (cut_at 1) cut_rows, (rows_alike (cut_at 2) narrow_rows, tt)));
-  low = all_low None (cut_at 0 ∷ folded_at (cut_at 1) ∷ folded_at (cut_at 2) ∷ []) (tt, (tt, (tt, tt)));
-  at_start = refl;
-  in_sight = tt;
-}
-
-abbrev cut_shown : PictureOf ℕ
-cut_shown = play_stations rules characters None true 4 tt (cut_station 0 ∷ cut_station 1 ∷ cut_station 2 ∷ []) (full 1)
-
--- "> a", "b" and ". c" from row 1 on, and the cursor after a row that fills its last column
-cut_by_clause : (cut_shown.row ≡ 4) × (cut_shown.col ≡ 0) × (cut_shown.cell 1 2 ≡ 97) × (cut_shown.cell 2 0 ≡ 98) × (cut_shown.cell 3 2 ≡ 99) × (cut_shown.cell 0 2 ≡ 65)
-unfolding glyphs pieces column_width painted_on apply destination searched_again search_step boundary_below is_boundary iterate greatest_below least_from settled_pieces needed_by_text unicode_segmentation
-cut_by_clause =
-    let s = (drawn_paintings rules characters cut_run None true 4 tt (cut_station 0 ∷ cut_station 1 ∷ []) (cut_station 2) [] (cut_at 0 ∷ folded_at (cut_at 1) ∷ []) (folded_at (cut_at 2)) (full 1) comes_cut).shown in
-    (s.fresh.row, s.fresh.col, s.fresh.shown 2 (omega arith), s.fresh.shown 3 (omega arith), s.fresh.below.0 2 (omega arith), s.above 0 2 (omega arith) (omega arith) (omega arith))
-
-cut_by_computing : (cut_shown.row ≡ 4) × (cut_shown.col ≡ 0) × (cut_shown.cell 1 2 ≡ 97) × (cut_shown.cell 2 0 ≡ 98) × (cut_shown.cell 2 1 ≡ 32) × (cut_shown.cell 3 2 ≡ 99) × (cut_shown.cell 0 2 ≡ 65)
-unfolding glyphs pieces column_width painted_on apply destination searched_again search_step boundary_below is_boundary iterate greatest_below least_from settled_pieces needed_by_text unicode_segmentation
-cut_by_computing = (refl, refl, refl, refl, refl, refl, refl)
-
--- ---- the same rows are pasted at three columns, and the screen is cleared by a Repaint
-
-abbrev healed_run : Frame ℕ
-healed_run = frame_with 3 (Paste (97 ∷ 98 ∷ 10 ∷ 99 ∷ []) ∷ Key (key_press 8 (Char 76)) ∷ [])
-
-abbrev healed_station : ℕ → Station ℕ
-healed_station n = nth (stations_of rules healed_run) n
-
-abbrev healed_at : ℕ → SizedScene
-healed_at n = sized_scene rules (healed_station n)
-
-cleared_rows : HasPlainRows (healed_at 2).cols (healed_at 2).scene
-unfolding glyphs pieces column_width painted_on apply destination searched_again search_step boundary_below is_boundary iterate greatest_below least_from settled_pieces needed_by_text
-cleared_rows = record { wide = omega arith; prompt = refl; line = refl; lower = tt; pair = refl; off_edge = λ e. (let off : 1 ≡ 0 = e in omega (arith, off)) }
-
-heals : ComesHealed rules characters None healed_run (healed_station 0 ∷ healed_station 1 ∷ []) [] (healed_station 2) [] [] (folded_at (healed_at 2))
-unfolding glyphs pieces column_width painted_on apply destination searched_again search_step boundary_below is_boundary iterate greatest_below least_from settled_pieces needed_by_text
-heals = record {
-  comes = record { nothing_painted = refl; stations = refl; painting = painting_in (station_painting rules (healed_station 2)); painted = refl };
-  cleared = refl;
-  alike = (rows_alike (healed_at 2) cleared_rows, tt);
-  low = all_low None (folded_at (healed_at 2) ∷ []) (tt, tt);
-  in_sight = tt;
-}
-
-abbrev healed_shown : PictureOf ℕ → PictureOf ℕ
-healed_shown before = play_since rules characters None false 3 tt (healed_station 0 ∷ healed_station 1 ∷ []) (healed_station 2 ∷ []) before
-
--- from row 0 on it is fresh, whatever the screen showed
-healed_by_clause : (before : PictureOf ℕ) → ((healed_shown before).row ≡ 3) × ((healed_shown before).col ≡ 0) × ((healed_shown before).cell 1 0 ≡ 98) × ((healed_shown before).cell 2 2 ≡ 99)
-unfolding glyphs pieces column_width painted_on apply destination searched_again search_step boundary_below is_boundary iterate greatest_below least_from settled_pieces needed_by_text unicode_segmentation
-healed_by_clause before =
-    let f = (drawn_healings rules characters healed_run None (healed_station 0 ∷ healed_station 1 ∷ []) [] (healed_station 2) [] [] (folded_at (healed_at 2)) heals).fresh false 3 tt before in
-    (f.row, f.col, f.shown 3 (omega arith), f.below.0 2 (omega arith))
-
-healed_by_computing : (before : PictureOf ℕ) → ((healed_shown before).row ≡ 3) × ((healed_shown before).col ≡ 0) × ((healed_shown before).cell 1 0 ≡ 98) × ((healed_shown before).cell 2 2 ≡ 99) × ((healed_shown before).cell 3 0 ≡ 32)
-unfolding glyphs pieces column_width painted_on apply destination searched_again search_step boundary_below is_boundary iterate greatest_below least_from settled_pieces needed_by_text unicode_segmentation
-healed_by_computing before = (refl, refl, refl, refl, refl)
-
--- and the closing batch ends below it, where the last row fills its last column too
-healed_closed_by_clause : (before : PictureOf ℕ) → let after = closed_by rules characters None false 3 7 tt healed_run (healed_shown before) in (after.row ≡ 4) × (after.col ≡ 0)
-unfolding glyphs pieces column_width painted_on apply destination searched_again search_step boundary_below is_boundary iterate greatest_below least_from settled_pieces needed_by_text unicode_segmentation
-healed_closed_by_clause before =
-    let c = (healed_closings rules characters healed_run None (healed_station 0 ∷ healed_station 1 ∷ []) [] (healed_station 2) [] [] (folded_at (healed_at 2)) heals (All-nil (RendersNothing rules))).1 false 3 7 tt tt before (omega arith) in
-    (c.row, c.col)
-
--- a character of the first painting does not stay
-healed_is_fresh : (before : PictureOf ℕ) → (healed_shown before).cell 0 3 ≡ 98 → ⊥
-unfolding glyphs pieces column_width painted_on apply destination searched_again search_step boundary_below is_boundary iterate greatest_below least_from settled_pieces needed_by_text unicode_segmentation
-healed_is_fresh before stale = let off : 32 ≡ 98 = stale in omega (arith, off)
