@@ -335,11 +335,33 @@ def sql_wrong_arguments(path):
     want(not os.path.exists(path), "the file was made")
 
 
+def sql_statement_of_many_rows():
+    rows = ",\n".join(f"({number})" for number in range(16_000))
+    ran = play(":memory:", f"create table t (n integer);\ninsert into t values\n{rows};\nselect count(*) as n from t;\n")
+    want((ran.returncode, ran.stderr) == (0, b"") and ran.stdout.split()[-3:] == [b"16000", b"(1", b"row)"], f"it wrote {ran.stdout[-80:]}")
+
+
+def sql_table_of_many_rows():
+    """A table is printed as its rows are read: the program does not keep them."""
+    tables = "".join(f"create table {name} (n integer);\ninsert into {name} values {', '.join(f'({number})' for number in range(rows))};\n"
+                     for name, rows in (("a", 1_000), ("b", 300)))
+    with tempfile.TemporaryFile() as given, tempfile.TemporaryFile() as wrote:
+        given.write(f"{tables}select a.n, b.n from a, b;\n".encode())
+        given.seek(0)
+        started = subprocess.Popen([PROGRAM, ":memory:"], stdin=given, stdout=wrote)
+        _pid, status, used = os.wait4(started.pid, 0)
+        started.returncode = os.waitstatus_to_exitcode(status)
+        wrote.seek(0)
+        lines = wrote.read().splitlines()
+    want(started.returncode == 0 and len(lines) == 300_003 and lines[-1] == b"(300000 rows)", f"status {started.returncode}, {lines[-1:]}")
+    want(used.ru_maxrss <= 20_000, f"it took {used.ru_maxrss} KB")
+
+
 SQL_CHECKS = [
     sql_of_several_lines, sql_quotes_over_lines, sql_pasted_rows, sql_in_a_paste, sql_wide_texts_are_cut,
     sql_errors_have_pictures, sql_names_are_completed, sql_columns_of_the_tables_that_are_named,
     sql_names_stand_in_a_menu, sql_hint_is_taken, sql_error_is_edited,
     sql_statement_is_abandoned, sql_unfinished_statement_is_abandoned, sql_size_within_a_line, sql_end_of_input,
     sql_controls_are_pictures, sql_signal, sql_no_database, sql_file_alone_has_all, sql_dump_with_triggers,
-    sql_errors_of_scripts, sql_wrong_arguments,
+    sql_errors_of_scripts, sql_wrong_arguments, sql_statement_of_many_rows, sql_table_of_many_rows,
 ]
