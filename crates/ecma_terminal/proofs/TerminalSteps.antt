@@ -11,9 +11,10 @@ use Rattle.laws_screens.specs.Pens.{cluster_cells}
 use Rattle.laws_screens.specs.Screens.{blank_of}
 use Rattle.laws_screens.specs.Strokes.{cleared_in}
 use Rattle.laws_screens.specs.StyledCells.{StyledCell, styled}
+use Rattle.tw_surface.specs.Width.{char_columns}
 use Rattle.tw_ansi.specs.KeyBytes.{is_digit, is_parameter, most, value_after}
 use Rattle.tw_ansi.specs.Selections.{selected}
-use Rattle.tw_ansi.specs.EcmaScreen.{EcmaScreen, act, act_by, feed_line, char_columns, columns_of, is_whole_character, join_mark, receive, receive_all, receive_by, return_to_start, row_cleared, told_steps, write, write_character, write_here}
+use Rattle.tw_ansi.specs.EcmaScreen.{EcmaScreen, act, act_by, feed_line, columns_of, is_whole_character, join_mark, receive, receive_all, receive_by, return_to_start, row_cleared, told_steps, write, write_character, write_here}
 use Rattle.tw_ansi.specs.EcmaScreen as terminal
 use Rattle.tw_ansi.proofs.EcmaSequences.{received}
 use Rattle.ecma_terminal.specs.Cells.{shown_cell}

@@ -12,7 +12,7 @@ returns-in-Ok-clause-ok c =
     let character = c.args.bytes.items ++ c.args.byte ∷ [] in
     let items : c.push-pushed.new.self.items ≡ character =
     c.push-pushed.ensures.items ∙ ap (λ b. if b then character else c.args.bytes.items) (c.is_err.ensures.negation ∙ ap not c.if-is_err.false) in
-    let whole : is_whole_character character ≡ true = ap is_whole_character (sym items ∙ sym c.as_slice.ensures.value) ∙ sym c.is_whole_character.ensures ∙ c.if-not-is_whole.false in
+    let whole : is_whole_character character ≡ true = ap is_whole_character (sym items ∙ sym c.as_slice.ensures.value) ∙ sym c.is_whole_character.ensures ∙ c.if-not-is_whole_character.false in
     let done =
     subst (λ l. Becomes c.args.self.now (write_character styled grid.rows grid.cols l) c.write_character.new.self) (c.as_slice-2.ensures.value ∙ items) c.in-Ok.ensures.ok in
     record {
