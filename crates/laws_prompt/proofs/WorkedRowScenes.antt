@@ -1,6 +1,7 @@
 -- Scenes with rows, by computation: a letter with an accent and a row under it, a line in a colour, and rows of Han.
 use Rattle.std.proofs.Common.{◌≡◌, ℕ, List, [], ◌∷◌, true, false, refl, arith}
-use Rattle.std.specs.Prelude.{encode_utf8}
+use Rattle.std.proofs.lemmas.Str.{IsUtf8-from_is_utf8}
+use Rattle.std.specs.Str.{is_utf8}
 use Rattle.unicode_segmentation.proofs.Computing.{unicode_segmentation}
 use Rattle.unicode_width.proofs.Computing.{unicode_width}
 use Rattle.tw_surface.specs.declared.cell.AttributeChange.{AttributeChange}
@@ -14,6 +15,7 @@ use Rattle.laws_screens.specs.Glyphs.{glyphs}
 use Rattle.laws_screens.specs.Pens.{strokes_of}
 use Rattle.laws_screens.specs.StyledCells.{characters, styled}
 use Rattle.laws_screens.specs.RowScenes.{folded, HasRows}
+use Rattle.tw_line.specs.Cut.{Cut}
 use Rattle.tw_hosts.specs.Settling.{is_settled, needed_by_text, settled_column, settled_pieces}
 use Rattle.laws_prompt.specs.MeasuredRows.{IsMeasuredRow, HasMeasuredRows}
 use Rattle.laws_prompt.specs.PlainRows.{first_row_changes, other_rows}
@@ -61,11 +63,11 @@ abbrev wide : Scene
 wide = scene_of (Text (230 ∷ 188 ∷ 162 ∷ 229 ∷ 173 ∷ 151 ∷ 13 ∷ 10 ∷ 230 ∷ 188 ∷ 162 ∷ 229 ∷ 173 ∷ 151 ∷ []) ∷ []) 3
 
 han_fits : IsMeasuredRow 5 han
-unfolding glyphs unicode_segmentation unicode_width encode_utf8
-han_fits = record { utf8 = (28450 ∷ 23383 ∷ [], (refl, refl)); within = refl }
+unfolding glyphs is_utf8 unicode_segmentation unicode_width
+han_fits = record { utf8 = IsUtf8-from_is_utf8 han refl; within = refl }
 
 wide_has_rows : HasMeasuredRows 5 wide
-unfolding pieces unicode_segmentation unicode_width
+unfolding glyphs pieces unicode_segmentation unicode_width
 wide_has_rows = record {
   wide = omega arith;
   prompt = refl;
@@ -81,7 +83,7 @@ unfolding pieces unicode_segmentation unicode_width
 wide_ends_at_edge h = h.off_edge refl
 
 -- the cursor before the second character: the settled column leads to the next row, and the plain one does not
-wide_cursor : let cut = record { line = han; cursor = 3 } in
+wide_cursor : let cut : Cut = record { line = han; cursor = 3 } in
     (is_settled 5 (62 ∷ 32 ∷ []) cut ≡ true) × (settled_column 5 (62 ∷ 32 ∷ []) cut ≡ 3) × (settled_column 6 (62 ∷ 32 ∷ []) cut ≡ 2)
 unfolding pieces settled_pieces needed_by_text unicode_segmentation unicode_width
 wide_cursor = (refl, refl, refl)
