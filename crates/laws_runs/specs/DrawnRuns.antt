@@ -75,8 +75,8 @@ module _ {V A C : Type 0} (rules : HostRules V) (pen : Pen A C) where
       → ComesMeasured rows f earlier station later measured last before → ShowsDrawn rows cuts v a f earlier station measured last before
 
   -- a run's closing batch, at w columns, leaves the cursor in the row below this one, on a screen of cols columns
-  abbrev pub EndsBelow : Option ℕ → Bool → ℕ → ℕ → A → Frame V → ℕ → PictureOf C → Type 0
-  EndsBelow rows cuts cols w kept f bottom shown =
+  abbrev pub LandsBelow : Option ℕ → Bool → ℕ → ℕ → A → Frame V → ℕ → PictureOf C → Type 0
+  LandsBelow rows cuts cols w kept f bottom shown =
       IsClosedSheet rows w (blank_of pen) bottom (resized cuts (blank_of pen) cols w shown) (closed_by rows cuts cols w kept f shown)
 
   -- Some stations are all that a run paints: its closing batch leaves the cursor in the row below the last one of their
@@ -84,7 +84,7 @@ module _ {V A C : Type 0} (rules : HostRules V) (pen : Pen A C) where
   abbrev pub EndsBelow : Option ℕ → Bool → ℕ → ℕ → A → A → Frame V → List (Station V) → List SizedScene → SizedScene → PictureOf C → Type 0
   EndsBelow rows cuts v w a kept f stations measured last before =
       let bottom = top_row rows before.row (paintings_to pen measured last) + sheet_last_row last.cols (painting_of pen last).sheet in
-      TakesAll rules f stations × EndsBelow rows cuts last.cols w kept f bottom (play_stations rows cuts v a stations before)
+      TakesAll rules f stations × LandsBelow rows cuts last.cols w kept f bottom (play_stations rows cuts v a stations before)
 
   -- So it is after the last station that is painted, at whatever columns the screen then has and whatever is kept of
   -- attributes; also where the run then ends with the refusal of a painting.
@@ -126,7 +126,7 @@ module _ {V A C : Type 0} (rules : HostRules V) (pen : Pen A C) where
   HealsBelow rows f earlier since station last =
       let bottom = sheet_last_row last.cols (painting_of pen last).sheet in
       TakesAll rules f (earlier ++ (since ++ station ∷ [])) × ((cuts : Bool) (v w : ℕ) (a kept : A) (before : PictureOf C) → 2 ≤ w
-      → EndsBelow rows cuts last.cols w kept f bottom (play_since rows cuts v a earlier (since ++ station ∷ []) before))
+      → LandsBelow rows cuts last.cols w kept f bottom (play_since rows cuts v a earlier (since ++ station ∷ []) before))
 
   abbrev pub HealedClosings : Type 0
   HealedClosings = (f : Frame V) (rows : Option ℕ) (earlier since : List (Station V)) (station : Station V) (later : List (Station V)) (measured : List SizedScene) (last : SizedScene)
