@@ -1,14 +1,11 @@
 -- Lines of printable rows have rows.
-use Rattle.std.proofs.Common.{◌≡◌, ◌≤◌, ℕ, ◌+◌, ◌%◌, ◌<◌, ◌||◌, Bool, true, false, List, [], ◌∷◌, ◌++◌, map, length, refl, sym, ap, ◌∙◌, arith, eqb, ltb, append-nil, append_assoc, if◌then◌else◌}
+use Rattle.std.proofs.Common.{◌≡◌, ◌≤◌, ℕ, ◌+◌, ◌%◌, ◌<◌, ◌||◌, Bool, true, false, List, [], ◌∷◌, ◌++◌, length, refl, sym, ap, ◌∙◌, arith, eqb, ltb, append-nil, append_assoc, if◌then◌else◌}
 use Rattle.std.specs.List.{list_all, AllByRecursion}
 use Rattle.std.proofs.lemmas.Bool.{and_parts, and_from, false≢true}
-use Rattle.std.proofs.lemmas.List.{map-append}
 use Rattle.std.proofs.lemmas.List.Folds.{list_all-append}
-use Rattle.laws_screens.specs.Strokes.{Stroke}
-use Rattle.laws_screens.specs.Strokes.Stroke.{Return, Feed}
 use Rattle.tw_surface.specs.ChangeView.{Batch}
 use Rattle.tw_surface.specs.ChangeView.{Attribute, AllAttributes, Text, ClearScreen, ClearToEndOfScreen, CursorPosition}
-use Rattle.tw_surface.specs.Characters.{is_plain, is_printable, cr, lf}
+use Rattle.tw_surface.specs.Characters.{is_printable, cr, lf}
 use Rattle.tw_surface.specs.Defaults.{default_attributes}
 use Rattle.tw_surface.specs.Lines.{lines_of, text_of_lines}
 use Rattle.tw_surface.specs.Paintings.{edge_space, lower_changes}
@@ -16,17 +13,16 @@ use Rattle.tw_surface.specs.Pictures.{blank}
 use Rattle.tw_surface.specs.Places.{Place, origin}
 use Rattle.tw_surface.specs.Scenes.{Scene, Lower, IsPlain, IsPlainLower, is_text, is_typing, typed_text}
 use Rattle.tw_surface.specs.Scenes.Lower.{NoLower, Preview, Search}
-use Rattle.laws_screens.specs.Pens.{Pen, kept_after_all, char_stroke, strokes_of}
+use Rattle.laws_screens.specs.Pens.{Pen}
 use Rattle.laws_screens.specs.Glyphs.{fits_in}
 use Rattle.laws_screens.proofs.GlyphSeams.{plain_utf8}
 use Rattle.laws_screens.proofs.PlainGlyphs.{plain_from_printable, plain_glyphs, printable_within}
 use Rattle.laws_screens.proofs.PlainScenes.{plain_is_measured}
-use Rattle.laws_screens.proofs.PlainTexts.{text_of_lines-lines}
 use Rattle.laws_screens.specs.RowScenes.{place_behind, folded, HasRows}
 use Rattle.laws_prompt.specs.PlainRows.{is_row_typing, has_pair, first_in, first_row_changes, others_in, other_rows, HasPlainRows}
 use Rattle.laws_prompt.specs.MeasuredRows.{IsMeasuredRow, TypesMeasuredRows, PlainRowsAreMeasured}
 use Rattle.laws_prompt.proofs.MeasuredRowLemmas.{parts_of, measured_rows_are_rows}
-use Rattle.laws_prompt.proofs.RowTexts.{are_rows, rows_plain, printable_rows, joined_rows, broken_rows, rows_after}
+use Rattle.laws_prompt.proofs.RowTexts.{are_rows, printable_rows, joined_rows, broken_rows, rows_after}
 use Rattle.laws_prompt.proofs.TypedColumns.{IsTip, tip-start, tip-full, tip-changes}
 
 -- ---- texts

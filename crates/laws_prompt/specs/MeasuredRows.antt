@@ -1,8 +1,8 @@
 -- Lines of measured rows, with attributes.
-use Rattle.std.specs.Prelude.{ℕ, ◌≡◌, ◌≢◌, ◌≤◌, true, List, [], ◌∷◌}
+use Rattle.std.specs.Prelude.{ℕ, ◌≡◌, ◌≢◌, ◌≤◌, true, List}
 use Rattle.std.specs.List.{list_all, AllByRecursion}
 use Rattle.std.specs.Str.{IsUtf8}
-use Rattle.tw_surface.specs.ChangeView.{ChangeView, Batch}
+use Rattle.tw_surface.specs.ChangeView.{ChangeView}
 use Rattle.tw_surface.specs.ChangeView.{Attribute, AllAttributes, Text, ClearScreen, ClearToEndOfScreen, CursorPosition}
 use Rattle.tw_surface.specs.Lines.{lines_of}
 use Rattle.tw_surface.specs.Scenes.{Scene}
