@@ -343,18 +343,22 @@ def sql_statement_of_many_rows():
 
 def sql_table_of_many_rows():
     """A table is printed as its rows are read: the program does not keep them."""
-    tables = "".join(f"create table {name} (n integer);\ninsert into {name} values {', '.join(f'({number})' for number in range(rows))};\n"
+    tables = "".join(f"create table {name} (n integer);\ninsert into {name} values {', '.join(f'({n})' for n in range(rows))};\n"
                      for name, rows in (("a", 1_000), ("b", 300)))
-    with tempfile.TemporaryFile() as given, tempfile.TemporaryFile() as wrote:
-        given.write(f"{tables}select a.n, b.n from a, b;\n".encode())
-        given.seek(0)
-        started = subprocess.Popen([PROGRAM, ":memory:"], stdin=given, stdout=wrote)
-        _pid, status, used = os.wait4(started.pid, 0)
-        started.returncode = os.waitstatus_to_exitcode(status)
-        wrote.seek(0)
-        lines = wrote.read().splitlines()
-    want(started.returncode == 0 and len(lines) == 300_003 and lines[-1] == b"(300000 rows)", f"status {started.returncode}, {lines[-1:]}")
-    want(used.ru_maxrss <= 20_000, f"it took {used.ru_maxrss} KB")
+    with subprocess.Popen([PROGRAM, ":memory:"], stdin=subprocess.PIPE, stdout=subprocess.PIPE) as started:
+        started.stdin.write(f"{tables}select a.n, b.n from a, b;\n".encode())
+        started.stdin.flush()
+        wrote = 0
+        for line in started.stdout:
+            wrote += 1
+            if line == b"(300000 rows)\n":
+                break
+        want(wrote == 300_003, f"it wrote {wrote} lines")
+        with open(f"/proc/{started.pid}/status", encoding="utf-8") as file:
+            most = int(re.search(r"VmHWM:\s+(\d+) kB", file.read()).group(1))
+        started.stdin.close()
+    want(started.returncode == 0, f"the status is {started.returncode}")
+    want(most <= 20_000, f"it took {most} KB")
 
 
 SQL_CHECKS = [
