@@ -4,7 +4,7 @@ use crate::ends::{Pieces, Recorder, Writes};
 use crate::host::MarkedHost;
 use crate::trial::Trial;
 use std::alloc::Global;
-use tw_device::{AnsiTerminal, Answer, Escape, EventSource, KeyReader, read_typed_line};
+use tw_device::{AnsiTerminal, Answer, Escape, EventSource, Joined, KeyReader, read_line_from};
 use tw_input::InputEvent;
 use tw_lineedit::{Error, LineEditor};
 use tw_terminal::ScriptTerminal;
@@ -38,25 +38,24 @@ pub fn read_bytes(
 ) -> Result<Vec<Ending>, anyhow::Error> {
     let mut host = trial.host(alloc)?;
     let pieces = Pieces::new(trial.bytes.as_slice(), trial.cuts);
-    let mut keys = KeyReader::new(alloc, pieces).with_escape(Escape::Waits);
-    let mut terminal = AnsiTerminal::new(alloc, Recorder(writes), trial.size);
-    read_typed_lines(alloc, trial, &mut keys, &mut terminal, &mut host)
+    let keys = KeyReader::new(alloc, pieces).with_escape(Escape::Waits);
+    let terminal = AnsiTerminal::new(alloc, Recorder(writes), trial.size);
+    read_typed_lines(alloc, trial, &mut Joined::new(keys, terminal), &mut host)
 }
 
 /// Reads lines up to the end of the bytes.
 fn read_typed_lines(
     alloc: Global,
     trial: &Trial,
-    keys: &mut KeyReader<Pieces<'_>>,
-    terminal: &mut AnsiTerminal<Recorder<'_>>,
+    device: &mut Joined<KeyReader<Pieces<'_>>, AnsiTerminal<Recorder<'_>>>,
     host: &mut MarkedHost,
 ) -> Result<Vec<Ending>, anyhow::Error> {
     trial.fill(alloc, host)?;
     let mut endings = Vec::new(alloc);
     for _ in 0..u64::MAX {
-        let answer = read_typed_line(alloc, keys, terminal, host, trial.prompt)?;
-        endings.push(ended_by(answer, keys.is_at_end()))?;
-        if keys.is_at_end() {
+        let answer = read_line_from(alloc, device, host, trial.prompt)?;
+        endings.push(ended_by(answer, device.source.is_at_end()))?;
+        if device.source.is_at_end() {
             break;
         }
     }

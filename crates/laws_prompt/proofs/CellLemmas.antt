@@ -1,20 +1,23 @@
 -- Each character of a line stands in its cell.
-use Rattle.std.proofs.Common.{◌≡◌, ℕ, zero, suc, pos, ◌+ℤ◌, ◌+◌, ◌*◌, ◌/◌, ◌%◌, ◌<◌, ◌≤◌, Bool, true, false, eqb, ltb, List, [], ◌∷◌, ◌++◌, length, refl, ap, sym, subst, ◌∙◌, arith, length-append, append_assoc, append-nil, if◌then◌else◌, ◌&&◌}
+use Rattle.std.proofs.Common.{◌≡◌, ℕ, ◌+◌, ◌-◌, ◌/◌, ◌%◌, ◌<◌, ◌≤◌, max, Bool, true, false, eqb, List, [], ◌∷◌, ◌++◌, length, refl, ap, sym, subst, ◌∙◌, arith, length-append, append_assoc, pos, ◌+ℤ◌, ◌*◌, ltb, append-nil, Option, Some, None, take, drop, take-append-drop}
+use Rattle.std.specs.Prelude.{slice_index_or, unwrap_or}
 use Rattle.std.specs.List.{list_all}
-use Rattle.std.proofs.lemmas.Bool.{and_parts, and_from, or_parts, false≢true, ne_eqb, lt-ltb}
-use Rattle.std.proofs.lemmas.Int.{ints}
-use Rattle.std.proofs.lemmas.List.Folds.{list_all-append}
-use Rattle.std.proofs.Math.Nat.{mul-add-mod_self_right, mul-add-div_right}
+use Rattle.std.proofs.lemmas.Bool.{and_parts, and_from, or_parts, false≢true, lt-ltb}
+use Rattle.std.proofs.lemmas.List.{get_or_append_left, map-append}
+use Rattle.std.proofs.Math.Seq.{get_or-append_seam}
 use Rattle.laws_screens.specs.Strokes.{PictureOf}
-use Rattle.laws_screens.specs.Sheets.{IsFreshSheet, AreLinesShown, IsTextShown, rows_of_line}
-use Rattle.tw_surface.specs.ChangeView.{Batch}
-use Rattle.tw_surface.specs.ChangeView.{Attribute, AllAttributes, Text, ClearScreen, ClearToEndOfScreen, CursorPosition}
+use Rattle.laws_screens.specs.Sheets.{AreLinesShown, IsTextShown, rows_of_line, IsFreshSheet}
 use Rattle.tw_surface.specs.Characters.{is_printable, cr, lf}
+use Rattle.tw_surface.specs.Lines.{before_lines, lines_of, text_of_lines}
+use Rattle.tw_surface.specs.Pictures.{blank}
+use Rattle.laws_prompt.specs.Rows.{is_row_character, rows_of_text, rows_taken, rows_down, column_after, row_edge, spread, before_rows}
+use Rattle.laws_prompt.proofs.RowTexts.{over_rows, printable-row, edge-printable, some-rows, before-row, no-edge, both_hold, each_holds, some_lines, all_first, ends_there, not_cr, put_first, are_rows, rows-with-edge, spread-lines, spread-both, rows-off-edge, printable_rows}
+use Rattle.std.proofs.lemmas.Int.{ints}
+use Rattle.std.proofs.Math.Nat.{mul-add-mod_self_right, mul-add-div_right}
+use Rattle.tw_surface.specs.ChangeView.{Batch, Attribute, AllAttributes, Text}
 use Rattle.tw_surface.specs.Defaults.{default_attributes}
 use Rattle.tw_surface.specs.Fresh.{text_of}
-use Rattle.tw_surface.specs.Lines.{lines_of, text_of_lines}
-use Rattle.tw_surface.specs.Paintings.{before_line, edge_space, lower_changes}
-use Rattle.tw_surface.specs.Pictures.{blank}
+use Rattle.tw_surface.specs.Paintings.{before_line}
 use Rattle.tw_surface.specs.Places.{Place, origin, place_after_all}
 use Rattle.tw_surface.specs.Scenes.{Scene, IsPlain, is_typing, typed_text}
 use Rattle.laws_screens.specs.PaintedAlike.{IsPaintedAs}
@@ -26,17 +29,121 @@ use Rattle.laws_screens.proofs.PaintedAlikeLemmas.{measured_is_itself}
 use Rattle.laws_screens.proofs.PlainScenes.{plain_is_measured}
 use Rattle.laws_screens.proofs.RowSceneLemmas.{rows_are_a_preview}
 use Rattle.laws_screens.proofs.PlainTexts.{one_line}
-use Rattle.laws_prompt.specs.Rows.{is_row_character, rows_of_text, rows_down, column_after, spread}
-use Rattle.laws_screens.specs.RowScenes.{place_behind, folded}
-use Rattle.laws_prompt.specs.PlainRows.{is_row_typing, has_pair, first_row_changes, other_rows, HasPlainRows, plain_folded}
-use Rattle.laws_prompt.specs.RowCells.{ShowsLine, AnswersShowLines, ShownLinesArePlain, StandInRows, CellsByDivision}
-use Rattle.laws_prompt.proofs.RowTexts.{some_lines, ends_there, are_rows}
-use Rattle.laws_prompt.proofs.ColumnLemmas.{cursor_stands_in_its_row, row_column_is_settled}
-use Rattle.laws_prompt.proofs.SpreadLines.{spread-lines, spread-both, rows-off-edge, both-printable}
-use Rattle.laws_prompt.proofs.ShownRows.{first_cells, cell_there, lines_behind}
-use Rattle.laws_prompt.proofs.TypedColumns.{IsTip, tip-start, tip-changes}
-use Rattle.laws_prompt.proofs.MeasuredRowLemmas.{parts_of}
-use Rattle.laws_prompt.proofs.PlainRowLemmas.{typed-both, line_text, first_typed, folded_is_plain, plain_rows_are_rows}
+use Rattle.laws_screens.specs.RowScenes.{folded}
+use Rattle.laws_prompt.specs.MeasuredRows.{is_row_typing, has_pair, first_row_changes, other_rows, HasPlainRows, plain_folded}
+use Rattle.laws_prompt.specs.RowCells.{ShowsLine, AnswersShowLines, ShownLinesArePlain, StandInRows, CellsByDivision, RowsAnswerLine}
+use Rattle.laws_prompt.proofs.ColumnLemmas.{cursor_stands_in_its_row, row_column_is_settled, IsTip, tip-start, tip-changes}
+use Rattle.laws_prompt.proofs.MeasuredRowLemmas.{parts_of, end, typed-both, line_text, first_typed, folded_is_plain, plain_rows_are_rows}
+use Rattle.tw_surface.specs.Attributes.{with_attribute}
+use Rattle.tw_surface.specs.declared.cell.CellAttributes.{CellAttributes}
+use Rattle.tw_host.specs.ElementView as element
+use Rattle.tw_host.specs.ElementView.{ElementView, changes_of, element_change}
+use Rattle.tw_host.specs.Faithful.{text_of_elements}
+use Rattle.tw_hosts.specs.Settling.{PromptScreenView}
+use Rattle.tw_prompt_host.specs.Rows.{RowView, next_row, row_with, row_behind, row_break, row_columns, break_elements, elements_of_rows, elements_from}
+use Rattle.tw_prompt_host.proofs.RowLemmas.{printable_is_shown}
+
+-- what begins the first line stands from its first cell on
+pub first_cells : (cols : ℕ) (shown : PictureOf ℕ) (from : ℕ) (x rest : List ℕ) → list_all is_printable x ≡ true → AreLinesShown cols from blank (lines_of (x ++ rest)) shown
+    → (k : ℕ) → k < length x → shown.cell (from + k / cols) (k % cols) ≡ slice_index_or x k blank
+first_cells cols shown from x rest plain lines k inside =
+    let it = some_lines rest in
+    let text : IsTextShown cols from blank (x ++ it.0) shown = (subst (λ (ls : List (List ℕ)). AreLinesShown cols from blank ls shown) (all_first x rest it.0 it.1 plain it.2) lines).0 in
+    text k (omega (arith, inside, length-append x it.0)) ∙ get_or_append_left x it.0 blank k inside
+
+module _ (cols : ℕ) (two : 2 ≤ cols) (continuation : List ℕ) (printable : list_all is_printable continuation ≡ true) (tail : List ℕ) (shown : PictureOf ℕ) where
+  abbrev c : ℕ
+  c = length continuation
+
+  -- the screen shows these lines from a row on
+  abbrev Shows : ℕ → List ℕ → Type 0
+  Shows from text = AreLinesShown cols from blank (lines_of text) shown
+
+  -- after a row and its edge the next one begins below
+  under_row : (from n : ℕ) (x text : List ℕ) → length x ≡ n → list_all is_printable x ≡ true
+      → Shows from (x ++ ((row_edge cols n ++ (cr ∷ lf ∷ (continuation ++ text))) ++ tail)) → Shows (from + rows_taken cols n) (continuation ++ (text ++ tail))
+  under_row from n x text long plain lines =
+      let below : List ℕ = continuation ++ (text ++ tail) in
+      let edge : List ℕ = row_edge cols n in
+      let all : x ++ ((edge ++ (cr ∷ lf ∷ (continuation ++ text))) ++ tail) ≡ (x ++ edge) ++ (cr ∷ lf ∷ below) =
+      ap (λ (l : List ℕ). x ++ l) (append_assoc edge (cr ∷ lf ∷ (continuation ++ text)) tail)
+      ∙ ap (λ (l : List ℕ). x ++ (edge ++ (cr ∷ lf ∷ l))) (append_assoc continuation text tail)
+      ∙ sym (append_assoc x edge (cr ∷ lf ∷ below)) in
+      let cut : lines_of ((x ++ edge) ++ (cr ∷ lf ∷ below)) ≡ (x ++ edge) ∷ lines_of below = ends_there (x ++ edge) below (both_hold is_printable x edge plain (edge-printable cols n)) in
+      let rows : rows_of_line cols (x ++ edge) ≡ rows_taken cols n =
+      ap (λ i. max 1 ((i + cols - 1) / cols)) (length-append x edge ∙ ap (λ i. i + length edge) long) ∙ rows-with-edge cols n two in
+      rw rows at (subst (λ (ls : List (List ℕ)). AreLinesShown cols from blank ls shown) (ap lines_of all ∙ cut) lines).1
+
+  -- a character more before the first row
+  moved : (from : ℕ) (x : List ℕ) (d : ℕ) (text : List ℕ) → Shows from (x ++ ((d ∷ text) ++ tail)) → Shows from ((x ++ d ∷ []) ++ (text ++ tail))
+  moved from x d text lines = subst (λ (l : List ℕ). Shows from l) (sym (append_assoc x (d ∷ []) (text ++ tail))) lines
+
+  longer : (n : ℕ) (x : List ℕ) (d : ℕ) → length x ≡ n → length (x ++ d ∷ []) ≡ n + 1
+  longer n x d long = length-append x (d ∷ []) ∙ ap (λ i. i + 1) long
+
+  still-plain : (x : List ℕ) (d : ℕ) → list_all is_printable x ≡ true → is_printable d ≡ true → list_all is_printable (x ++ d ∷ []) ≡ true
+  still-plain x d plain here = both_hold is_printable x (d ∷ []) plain (and_from (is_printable d) true here refl)
+
+  -- a character of the first row, after the x before it
+  cell_here : (from n : ℕ) (x : List ℕ) (ch : ℕ) (right : List ℕ) → length x ≡ n → list_all is_printable x ≡ true → is_printable ch ≡ true
+      → Shows from (x ++ (ch ∷ right)) → shown.cell (from + n / cols) (n % cols) ≡ ch
+  cell_here from n x ch right long plain mine lines =
+      let it = some_lines right in
+      let one : lines_of (ch ∷ right) ≡ (ch ∷ it.0) ∷ it.1 = ap (λ ls. before_lines ch ls) it.2 ∙ put_first ch it.0 it.1 (not_cr ch mine) in
+      let all = all_first x (ch ∷ right) (ch ∷ it.0) it.1 plain one in
+      let text : IsTextShown cols from blank (x ++ ch ∷ it.0) shown = (subst (λ (ls : List (List ℕ)). AreLinesShown cols from blank ls shown) all lines).0 in
+      let inside : length x < length (x ++ ch ∷ it.0) = omega (arith, length-append x (ch ∷ it.0)) in
+      let cell = text (length x) inside ∙ get_or-append_seam x ch it.0 blank in
+      rw long at cell
+
+  -- a character of a text, after the x before its first row
+  pub cell_there : (n : ℕ) (left : List ℕ) (ch : ℕ) (right : List ℕ) → list_all is_row_character (left ++ ch ∷ right) ≡ true → eqb ch lf ≡ false
+      → (from : ℕ) (x : List ℕ) → length x ≡ n → list_all is_printable x ≡ true → Shows from (x ++ (spread cols continuation n (left ++ ch ∷ right) ++ tail))
+      → shown.cell (from + rows_down cols n c (rows_of_text left)) (column_after cols n c (rows_of_text left)) ≡ ch
+  cell_there n left ch right rows mine =
+      let both = each_holds is_row_character left (ch ∷ right) rows in
+      let here = printable-row ch (and_parts (is_row_character ch) (list_all is_row_character right) both.1).0 mine in
+      over_rows c (λ n left. (from : ℕ) (x : List ℕ) → length x ≡ n → list_all is_printable x ≡ true → Shows from (x ++ (spread cols continuation n (left ++ ch ∷ right) ++ tail))
+      → shown.cell (from + rows_down cols n c (rows_of_text left)) (column_after cols n c (rows_of_text left)) ≡ ch)
+      (λ n from x long plain lines.
+      let none : n ≡ n + 0 = omega arith in
+      rw (← none) (cell_here from n x ch (spread cols continuation (n + 1) right ++ tail) long plain here (rw mine at lines)))
+      (λ n left so from x long plain lines.
+      let it = some-rows left in
+      let cell = rw it.2 at (so (from + rows_taken cols n) continuation refl printable (under_row from n x (spread cols continuation c (left ++ ch ∷ right)) long plain lines)) in
+      let none : n ≡ n + 0 = omega arith in
+      let down : from + rows_taken cols n + rows_down cols c c (it.0 ∷ it.1) ≡ from + (rows_taken cols n + rows_down cols c c (it.0 ∷ it.1)) = omega arith in
+      rw it.2 (rw (← none) (rw (← down) cell)))
+      (λ n d left plain_d e so from x long plain lines.
+      let it = some-rows left in
+      let same = before-row cols n c d it.0 it.1 in
+      let cell = so from (x ++ d ∷ []) (longer n x d long) (still-plain x d plain plain_d) (moved from x d (spread cols continuation (n + 1) (left ++ ch ∷ right)) (rw e at lines)) in
+      rw (e, it.2) (rw (← same.0, ← same.1) (rw it.2 at cell)))
+      n left both.0
+
+  -- what comes after a line feed begins in the row below that in which the text before it ends
+  pub lines_behind : (n : ℕ) (left right : List ℕ) → list_all is_row_character (left ++ lf ∷ right) ≡ true
+      → (from : ℕ) (x : List ℕ) → length x ≡ n → list_all is_printable x ≡ true → Shows from (x ++ (spread cols continuation n (left ++ lf ∷ right) ++ tail))
+      → Shows (from + rows_down cols n c (rows_of_text left) + 1) (continuation ++ (spread cols continuation c right ++ tail))
+  lines_behind n left right rows =
+      let below : List ℕ = continuation ++ (spread cols continuation c right ++ tail) in
+      over_rows c (λ n left. (from : ℕ) (x : List ℕ) → length x ≡ n → list_all is_printable x ≡ true → Shows from (x ++ (spread cols continuation n (left ++ lf ∷ right) ++ tail))
+      → Shows (from + rows_down cols n c (rows_of_text left) + 1) below)
+      (λ n from x long plain lines.
+      let down : from + rows_taken cols n ≡ from + (n + 0) / cols + 1 = (let none : n + 0 ≡ n = omega arith in rw none (omega arith)) in
+      subst (λ i. Shows i below) down (under_row from n x (spread cols continuation c right) long plain lines))
+      (λ n left so from x long plain lines.
+      let it = some-rows left in
+      let rest = rw it.2 at (so (from + rows_taken cols n) continuation refl printable (under_row from n x (spread cols continuation c (left ++ lf ∷ right)) long plain lines)) in
+      let none : n ≡ n + 0 = omega arith in
+      let down : from + rows_taken cols n + rows_down cols c c (it.0 ∷ it.1) + 1 ≡ from + (rows_taken cols (n + 0) + rows_down cols c c (it.0 ∷ it.1)) + 1 = rw (← none) (omega arith) in
+      rw it.2 (subst (λ i. Shows i below) down rest))
+      (λ n d left plain_d e so from x long plain lines.
+      let it = some-rows left in
+      let same = before-row cols n c d it.0 it.1 in
+      let rest = rw it.2 at (so from (x ++ d ∷ []) (longer n x d long) (still-plain x d plain plain_d) (moved from x d (spread cols continuation (n + 1) (left ++ lf ∷ right)) (rw e at lines))) in
+      rw (e, it.2) (subst (λ i. Shows (from + i + 1) below) same.0 rest))
+      n left (each_holds is_row_character left (lf ∷ right) rows).0
 
 -- ---- a sheet of characters
 
@@ -45,12 +152,10 @@ pub printable_typed : (changes : Batch) → list_all is_typing changes ≡ true 
 printable_typed [] h = refl
 printable_typed (Text text ∷ more) h =
     let both = and_parts (list_all is_printable text) (list_all is_typing more) h in
-    both-printable text (typed_text more) both.0 (printable_typed more both.1)
+    both_hold is_printable text (typed_text more) both.0 (printable_typed more both.1)
 printable_typed (Attribute a ∷ more) h = printable_typed more h
 printable_typed (AllAttributes a ∷ more) h = printable_typed more h
-printable_typed (ClearScreen x ∷ more) h = absurd (false≢true h)
-printable_typed (ClearToEndOfScreen x ∷ more) h = absurd (false≢true h)
-printable_typed (CursorPosition x y ∷ more) h = absurd (false≢true h)
+printable_typed (change ∷ more) h = absurd (false≢true h)
 
 -- a line without a pair of CR and LF is printable
 pub unpaired : (line : Batch) → list_all is_row_typing line ≡ true → has_pair line ≡ false → list_all is_typing line ≡ true
@@ -68,37 +173,17 @@ unpaired (Text text ∷ more) h p =
     one line (next ∷ lines) is k few = absurd (false≢true (sym few ∙ lt-ltb 1 (length (line ∷ next ∷ lines)) (omega arith)))
 unpaired (Attribute a ∷ more) h p = unpaired more h p
 unpaired (AllAttributes a ∷ more) h p = unpaired more h p
-unpaired (ClearScreen x ∷ more) h p = absurd (false≢true h)
-unpaired (ClearToEndOfScreen x ∷ more) h p = absurd (false≢true h)
-unpaired (CursorPosition x y ∷ more) h p = absurd (false≢true h)
+unpaired (change ∷ more) h p = absurd (false≢true h)
 
 -- the space at the edge
 abbrev pub edge_of : ℕ → Scene → List ℕ
-edge_of cols scene = if ltb 0 (length (text_of scene)) && eqb (length (text_of scene) % cols) 0 then blank ∷ [] else []
-
-edge-is : (cols : ℕ) (scene : Scene) → list_all is_printable (edge_of cols scene) ≡ true
-edge-is cols scene = by (ltb 0 (length (text_of scene)) && eqb (length (text_of scene) % cols) 0)
-  where
-    by : (k : Bool) → list_all is_printable (if k then blank ∷ [] else []) ≡ true
-    by true = refl
-    by false = refl
-
-pub no-edge : (cols : ℕ) (scene : Scene) → (length (text_of scene) % cols ≡ 0 → length (text_of scene) ≡ 0) → edge_of cols scene ≡ []
-no-edge cols scene off = by (length (text_of scene)) off
-  where
-    by : (n : ℕ) → (n % cols ≡ 0 → n ≡ 0) → (if ltb 0 n && eqb (n % cols) 0 then blank ∷ [] else []) ≡ []
-    by zero off = refl
-    by (suc n) off = rw (lt-ltb 0 (suc n) (omega arith), ne_eqb (suc n % cols) 0 (λ e. omega (arith, off e))) refl
+edge_of cols scene = row_edge cols (length (text_of scene))
 
 -- its first line
 pub text-is : (cols : ℕ) (scene : Scene) → 2 ≤ cols → IsPlain scene → (sheet_of characters cols scene).text ≡ typed_text scene.prompt ++ (typed_text scene.line ++ edge_of cols scene)
 text-is cols scene two plain = text_is cols 0 scene two plain ∙ append_assoc (typed_text scene.prompt) (typed_text scene.line) (edge_of cols scene)
 
 module _ (cols : ℕ) (scene : Scene) (h : HasPlainRows cols scene) where
-  -- the space at the edge, and what stands under the line
-  abbrev pub end : Batch
-  end = edge_space cols (place_behind cols scene scene.line) ++ lower_changes scene.lower
-
   abbrev pub other : Scene
   other = folded cols scene (first_row_changes scene.line) (other_rows scene.line)
 
@@ -107,31 +192,31 @@ module _ (cols : ℕ) (scene : Scene) (h : HasPlainRows cols scene) where
   head = typed_text scene.prompt ++ typed_text (first_row_changes scene.line)
 
   abbrev pub below : List (List ℕ)
-  below = lines_of (typed_text (other_rows scene.line) ++ typed_text end)
+  below = lines_of (typed_text (other_rows scene.line) ++ typed_text (end cols scene h))
 
   pub folded_text : (sheet_of characters cols other).text ≡ head
   folded_text =
       let prompt : List ℕ = typed_text scene.prompt in
       let first : List ℕ = typed_text (first_row_changes scene.line) in
-      text-is cols other h.wide (folded_is_plain cols scene h) ∙ ap (λ (l : List ℕ). prompt ++ (first ++ l)) (no-edge cols other h.off_edge) ∙ ap (λ (l : List ℕ). prompt ++ l) (append-nil first)
+      text-is cols other h.wide (folded_is_plain cols scene h) ∙ ap (λ (l : List ℕ). prompt ++ (first ++ l)) (no-edge cols (length (text_of other)) h.off_edge) ∙ ap (λ (l : List ℕ). prompt ++ l) (append-nil first)
 
   pub folded_lower : (sheet_of characters cols other).lower ≡ below
   folded_lower =
       let plain = folded_is_plain cols scene h in
-      lower_is cols 0 other h.wide plain other.lower plain.lower ∙ ap lines_of (typed-both (other_rows scene.line) end)
+      lower_is cols 0 other h.wide plain other.lower plain.lower ∙ ap lines_of (typed-both (other_rows scene.line) (end cols scene h))
 
   -- the lines of all that is typed
-  pub folded_lines : lines_of (typed_text scene.prompt ++ (typed_text scene.line ++ typed_text end)) ≡ head ∷ below
+  pub folded_lines : lines_of (typed_text scene.prompt ++ (typed_text scene.line ++ typed_text (end cols scene h))) ≡ head ∷ below
   folded_lines =
       let prompt : List ℕ = typed_text scene.prompt in
       let first : List ℕ = typed_text (first_row_changes scene.line) in
       let others : List ℕ = typed_text (other_rows scene.line) in
-      let all : prompt ++ (typed_text scene.line ++ typed_text end) ≡ head ++ (cr ∷ lf ∷ (others ++ typed_text end)) =
-      ap (λ (l : List ℕ). prompt ++ (l ++ typed_text end)) (line_text scene.line h.pair)
-      ∙ ap (λ (l : List ℕ). prompt ++ l) (append_assoc first (cr ∷ lf ∷ others) (typed_text end))
-      ∙ sym (append_assoc prompt first (cr ∷ lf ∷ (others ++ typed_text end))) in
-      let plain = both-printable prompt first (printable_typed scene.prompt h.prompt) (printable_typed (first_row_changes scene.line) (first_typed scene.line h.line)) in
-      ap lines_of all ∙ ends_there head (others ++ typed_text end) plain
+      let all : prompt ++ (typed_text scene.line ++ typed_text (end cols scene h)) ≡ head ++ (cr ∷ lf ∷ (others ++ typed_text (end cols scene h))) =
+      ap (λ (l : List ℕ). prompt ++ (l ++ typed_text (end cols scene h))) (line_text scene.line h.pair)
+      ∙ ap (λ (l : List ℕ). prompt ++ l) (append_assoc first (cr ∷ lf ∷ others) (typed_text (end cols scene h)))
+      ∙ sym (append_assoc prompt first (cr ∷ lf ∷ (others ++ typed_text (end cols scene h)))) in
+      let plain = both_hold is_printable prompt first (printable_typed scene.prompt h.prompt) (printable_typed (first_row_changes scene.line) (first_typed scene.line h.line)) in
+      ap lines_of all ∙ ends_there head (others ++ typed_text (end cols scene h)) plain
 
   pub head_rows : rows_of_line cols head ≡ 1 + length head / cols
   head_rows = rows-off-edge cols (length head) h.wide h.off_edge
@@ -158,8 +243,8 @@ module _ (cols s : ℕ) (scene : Scene) (shown : PictureOf ℕ) where
   line_alone two k fresh =
       let all : List ℕ = typed_text scene.prompt ++ (typed_text scene.line ++ edge_of cols scene) in
       let plain : list_all is_printable all ≡ true =
-      both-printable (typed_text scene.prompt) (typed_text scene.line ++ edge_of cols scene) (printable_typed scene.prompt k.prompt)
-      (both-printable (typed_text scene.line) (edge_of cols scene) (printable_typed scene.line k.line) (edge-is cols scene)) in
+      both_hold is_printable (typed_text scene.prompt) (typed_text scene.line ++ edge_of cols scene) (printable_typed scene.prompt k.prompt)
+      (both_hold is_printable (typed_text scene.line) (edge_of cols scene) (printable_typed scene.line k.line) (edge-printable cols (length (text_of scene)))) in
       subst (λ (ls : List (List ℕ)). AreLinesShown cols s blank ls shown) (sym (one_line all plain))
       (subst (λ (t : List ℕ). IsTextShown cols s blank t shown) (text-is cols scene two k) fresh.shown, tt)
 
@@ -167,10 +252,10 @@ module _ (cols s : ℕ) (scene : Scene) (shown : PictureOf ℕ) where
 
 module _ (cols : ℕ) (prompt continuation before rest : List ℕ) (scene : Scene) (h : ShowsLine cols prompt continuation before rest scene) where
   pub line-is : typed_text scene.line ≡ spread cols continuation (length prompt) (before ++ rest)
-  line-is = h.line_is ∙ sym (spread-both cols continuation (length prompt) before rest)
+  line-is = h.line_is ∙ sym (spread-both cols continuation (length prompt) before rest h.printable.rows_before)
 
   pub rows-typed : list_all is_row_character (before ++ rest) ≡ true
-  rows-typed = list_all-append is_row_character before rest ∙ and_from (list_all is_row_character before) (list_all is_row_character rest) h.printable.rows_before h.printable.rows_behind
+  rows-typed = both_hold is_row_character before rest h.printable.rows_before h.printable.rows_behind
 
   -- with a pair of CR and LF it has rows
   pub has_rows : has_pair scene.line ≡ true → HasPlainRows cols scene
@@ -206,7 +291,7 @@ module _ (cols : ℕ) (prompt continuation before rest : List ℕ) (scene : Scen
   pub prompt_tip : IsTip cols 0 (length (typed_text scene.prompt)) (place_after_all cols (before_line scene.prompt) origin)
   prompt_tip =
       let all : Batch = scene.prompt ++ AllAttributes default_attributes ∷ [] in
-      let typing : list_all is_typing all ≡ true = list_all-append is_typing scene.prompt (AllAttributes default_attributes ∷ []) ∙ and_from (list_all is_typing scene.prompt) true h.prompt_typing refl in
+      let typing : list_all is_typing all ≡ true = both_hold is_typing scene.prompt (AllAttributes default_attributes ∷ []) h.prompt_typing refl in
       let n : 0 + length (typed_text all) ≡ length (typed_text scene.prompt) = (let e = ap (λ (t : List ℕ). length t) (typed-both scene.prompt (AllAttributes default_attributes ∷ []) ∙ append-nil (typed_text scene.prompt)) in omega (arith, e)) in
       rw n at (tip-changes cols 0 0 all origin (omega (arith, h.wide)) typing (tip-start cols 0))
 
@@ -233,13 +318,14 @@ module _ (cols : ℕ) (prompt continuation before rest : List ℕ) (scene : Scen
     col = col ∙ cursor_col;
     prompt_cells = first_cells cols shown s prompt (typed_text scene.line ++ tail) h.printable.printable_prompt (rw h.prompt_is at lines);
     continuation_cells = λ left right e k inside.
-        let below = lines_behind cols h.wide continuation h.printable.printable_continuation tail shown s (length prompt) prompt left right refl h.printable.printable_prompt
-        (sym (ap (list_all is_row_character) e) ∙ rows-typed) (rw (h.prompt_is, line-is ∙ ap (spread cols continuation (length prompt)) e) at lines) in
+        let rows : list_all is_row_character (left ++ lf ∷ right) ≡ true = sym (ap (list_all is_row_character) e) ∙ rows-typed in
+        let below = lines_behind cols h.wide continuation h.printable.printable_continuation tail shown (length prompt) left right rows s prompt refl h.printable.printable_prompt
+        (rw (h.prompt_is, line-is ∙ ap (spread cols continuation (length prompt)) e) at lines) in
         first_cells cols shown (s + rows_down cols (length prompt) (length continuation) (rows_of_text left) + 1) continuation (spread cols continuation (length continuation) right ++ tail)
         h.printable.printable_continuation below k inside;
     cells = λ left ch right e not_lf.
-        cell_there cols h.wide continuation h.printable.printable_continuation tail shown s (length prompt) prompt left ch right refl h.printable.printable_prompt
-        (sym (ap (list_all is_row_character) e) ∙ rows-typed) not_lf (rw (h.prompt_is, line-is ∙ ap (spread cols continuation (length prompt)) e) at lines);
+        cell_there cols h.wide continuation h.printable.printable_continuation tail shown (length prompt) left ch right (sym (ap (list_all is_row_character) e) ∙ rows-typed) not_lf
+        s prompt refl h.printable.printable_prompt (rw (h.prompt_is, line-is ∙ ap (spread cols continuation (length prompt)) e) at lines);
   }
 
 pub shown_lines_are_plain : {A C : Type 0} (pen : Pen A C) → ShownLinesArePlain pen
@@ -281,4 +367,81 @@ answers_show_lines cols prompt continuation before rest scene h =
       line_is = h.line_is;
       lower = h.lower;
       cursor = cursor_stands_in_its_row cols prompt continuation before rest scene h.printable settled h.prompt_is h.column_is;
+    }
+
+-- ---- a line that a host shows itself and that is then shown in rows
+
+-- the rows of a text of printable characters and line feeds are printable
+rows-printable : (text : List ℕ) → list_all is_row_character text ≡ true → list_all (list_all is_printable) (rows_of_text text) ≡ true
+rows-printable =
+    over_rows 0 (λ n text. list_all (list_all is_printable) (rows_of_text text) ≡ true) (λ n. refl) (λ n text rest. rest)
+    (λ n b text here e rest.
+    let it = some-rows text in
+    let rows = and_parts (list_all is_printable it.0) (list_all (list_all is_printable) it.1) (sym (ap (list_all (list_all is_printable)) it.2) ∙ rest) in
+    rw e (ap (λ all. list_all (list_all is_printable) (before_rows b all)) it.2 ∙ and_from (list_all is_printable (b ∷ it.0)) _ (and_from (is_printable b) _ here rows.0) rows.1)) 0
+
+module _ (screen : PromptScreenView) (continuation : List ℕ) (printable : list_all is_printable continuation ≡ true) where
+  -- so is a break between two of them
+  break-rows : (row : RowView) → are_rows (row_break screen continuation row) ≡ true
+  break-rows row =
+      let edge = edge-printable screen.cols (row_columns screen continuation row) in
+      ap (list_all (list_all is_printable)) (ends_there (row_edge screen.cols (row_columns screen continuation row)) continuation edge)
+      ∙ and_from (list_all is_printable (row_edge screen.cols (row_columns screen continuation row))) (are_rows continuation) edge (printable_rows continuation printable)
+
+  typing-break : (set : Option CellAttributes) (row : RowView) → list_all is_row_typing (changes_of (break_elements screen continuation set row)) ≡ true
+  typing-break None row = and_from (are_rows (row_break screen continuation row)) true (break-rows row) refl
+  typing-break (Some attributes) row = and_from (are_rows (row_break screen continuation row)) true (break-rows row) refl
+
+  -- elements one after the other
+  typing-both : (a b : List ElementView) → list_all is_row_typing (changes_of a) ≡ true → list_all is_row_typing (changes_of b) ≡ true → list_all is_row_typing (changes_of (a ++ b)) ≡ true
+  typing-both a b first second =
+      ap (list_all is_row_typing) (map-append element_change a b) ∙ both_hold is_row_typing (changes_of a) (changes_of b) first second
+
+  typing-rows : (set : Option CellAttributes) (row : RowView) (rows : List (List ℕ)) → list_all (list_all is_printable) rows ≡ true
+      → list_all is_row_typing (changes_of (elements_of_rows screen continuation set row rows)) ≡ true
+  typing-rows set row [] all = refl
+  typing-rows set row (text ∷ []) all = and_from (are_rows text) true (printable_rows text (and_parts (list_all is_printable text) true all).0) refl
+  typing-rows set row (text ∷ next ∷ more) all =
+      let both = and_parts (list_all is_printable text) (list_all (list_all is_printable) (next ∷ more)) all in
+      and_from (are_rows text) _ (printable_rows text both.0)
+      (typing-both (break_elements screen continuation set (row_with row text)) (elements_of_rows screen continuation set next_row (next ∷ more))
+      (typing-break set (row_with row text)) (typing-rows set next_row (next ∷ more) both.1))
+
+  -- what shows a line of printable rows types them
+  typing-elements : (set : Option CellAttributes) (row : RowView) (elements : List ElementView) → list_all is_row_character (text_of_elements elements) ≡ true
+      → list_all is_row_typing (changes_of (elements_from screen continuation set row elements)) ≡ true
+  typing-elements set row [] all = refl
+  typing-elements set row (element.Attribute change ∷ more) all = typing-elements (Some (with_attribute change (unwrap_or set default_attributes))) row more all
+  typing-elements set row (element.AllAttributes attributes ∷ more) all = typing-elements (Some attributes) row more all
+  typing-elements set row (element.Text text ∷ more) all =
+      let both = each_holds is_row_character text (text_of_elements more) all in
+      typing-both (elements_of_rows screen continuation set row (rows_of_text text)) (elements_from screen continuation set (row_behind row text) more)
+      (typing-rows set row (rows_of_text text) (rows-printable text both.0)) (typing-elements set (row_behind row text) more both.1)
+
+pub rows_answer_line : RowsAnswerLine
+rows_answer_line screen continuation cut shown scene it =
+    let before = take cut.cursor cut.line in
+    let rest = drop cut.cursor cut.line in
+    let parts : before ++ rest ≡ cut.line = take-append-drop cut.cursor cut.line in
+    let both = each_holds is_row_character before rest (ap (list_all is_row_character) parts ∙ it.printable) in
+    let shows = printable_is_shown screen continuation cut shown it.prompts it.printable it.faithful in
+    record {
+      wide = it.wide;
+      narrow = it.narrow;
+      printable = record {
+        printable_prompt = it.prompts.prompt;
+        printable_continuation = it.prompts.continuation;
+        rows_before = both.0;
+        rows_behind = both.1;
+      };
+      short = it.short;
+      prompt_is = it.prompt_is;
+      line_typing =
+          ap (list_all is_row_typing) it.line_is
+          ∙ typing-elements screen continuation it.prompts.continuation None _ shown.elements (ap (list_all is_row_character) it.faithful ∙ it.printable);
+      line_is =
+          ap typed_text it.line_is ∙ shows.0 ∙ ap (spread screen.cols continuation (length screen.prompt)) (sym parts)
+          ∙ spread-both screen.cols continuation (length screen.prompt) before rest both.0;
+      lower = it.lower;
+      column_is = it.column_is ∙ shows.1;
     }

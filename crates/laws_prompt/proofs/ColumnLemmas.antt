@@ -1,23 +1,126 @@
--- Where the text that shows rows leads.
-use Rattle.std.proofs.Common.{◌≡◌, ℕ, ℤ, zero, suc, pos, negsuc, ◌+ℤ◌, ◌-ℤ◌, ◌+◌, ◌-◌, ◌*◌, ◌/◌, ◌%◌, ◌<◌, ◌≤◌, Bool, true, false, ◌&&◌, eqb, leb, if◌then◌else◌, List, [], ◌∷◌, ◌++◌, length, map, take, drop, refl, ap, sym, ◌∙◌, arith, inl, inr}
+-- Where typed columns and the text that shows rows lead.
+use Rattle.std.proofs.Common.{◌≡◌, ℕ, suc, pos, ◌+ℤ◌, ◌+◌, ◌*◌, ◌/◌, ◌%◌, ◌<◌, ◌≤◌, Bool, true, false, leb, List, [], ◌∷◌, ◌++◌, length, map, refl, ap, ◌∙◌, arith, length-append, ℤ, zero, negsuc, ◌-ℤ◌, ◌-◌, ◌&&◌, eqb, if◌then◌else◌, take, drop, sym, inl, inr}
 use Rattle.std.specs.List.{list_all}
-use Rattle.std.proofs.lemmas.Bool.{and_parts, and_from, leb-true, leb-false, le-leb, eq-eqb, ne_eqb, cases_lt}
+use Rattle.std.proofs.lemmas.Bool.{and_parts, leb-true, leb-false, ne_eqb, false≢true, and_from, le-leb, cases_lt}
+use Rattle.std.proofs.lemmas.List.{map-append}
+use Rattle.std.proofs.Math.Nat.{mul-add-mod_self_right, mul-add-div_right, mod-eq_of_lt, div-eq_of_lt, add-mul, one-mul}
+use Rattle.tw_surface.specs.declared.measure.Piece.{Piece}
+use Rattle.tw_surface.specs.declared.measure.Piece.TheVariants.{Wide, Cr, Lf}
+use Rattle.tw_surface.specs.ChangeView.{Batch, Attribute, AllAttributes, Text}
+use Rattle.tw_surface.specs.Characters.{is_plain, is_printable, cr, lf}
+use Rattle.tw_surface.specs.Places.{Place, pieces, plain_piece, next_place, end_of_pieces, place_after_all, places_after, origin, is_in_range, begins_at}
+use Rattle.tw_surface.specs.Scenes.{is_typing, typed_text}
+use Rattle.tw_surface.proofs.RowLemmas.{plain_from_printable}
 use Rattle.std.proofs.lemmas.Int.{ints}
 use Rattle.std.proofs.lemmas.Nat.{div-add-mod', mod_below}
-use Rattle.std.proofs.Math.Nat.{add-mul, one-mul}
 use Rattle.std.proofs.Math.Seq.{take-append_seam, drop-append_seam}
-use Rattle.tw_surface.specs.declared.measure.Piece.TheVariants.{Cr, Lf, Wide}
-use Rattle.tw_surface.specs.Characters.{is_plain, is_printable, cr, lf}
-use Rattle.tw_surface.specs.Pictures.{blank}
-use Rattle.tw_surface.specs.Places.{Place, plain_piece, next_place, end_of_pieces, places_after, pieces, origin, is_in_range, begins_at}
 use Rattle.tw_surface.specs.Positions.{at_least_0}
-use Rattle.tw_surface.proofs.RowLemmas.{plain_from_printable}
 use Rattle.tw_hosts.specs.Settling.{place_after_text, needed_by_text, line_start, rows_between, settled_place, settled_pieces, is_settled, is_measured, is_ahead}
 use Rattle.tw_hosts.proofs.SettlingLemmas.{plain_needs, plain_settles, column_leads_there, cursor_is_settled}
 use Rattle.laws_prompt.specs.Rows.{is_row_character, before_rows, rows_of_text, rows_taken, rows_down, column_after, row_cell, row_edge, spread, columns_behind, shown_cut}
-use Rattle.laws_prompt.specs.RowColumns.{ArePrintableRows, RowColumnLeadsThere, CursorStandsInItsRow, RowColumnIsSettled}
-use Rattle.laws_prompt.proofs.RowSpreads.{printable-row, spread-plain, some-rows, before-row}
-use Rattle.laws_prompt.proofs.TypedColumns.{IsTip, tip-start, tip-step, tip-inside, tip-full, tip-typed, printable-piece, after, after-append, plain-pieces}
+use Rattle.laws_prompt.specs.RowCells.{ArePrintableRows, RowColumnLeadsThere, CursorStandsInItsRow, RowColumnIsSettled}
+use Rattle.laws_prompt.proofs.RowTexts.{over_rows, an-edge, no-edge, spread-plain, some-rows, before-row}
+
+-- a place after n columns from the beginning of a row on: some rows below it
+pub record IsTip (cols from n : ℕ) (p : Place) : Type 0 where
+  pub down : ℕ
+  pub columns : n ≡ down * cols + p.x
+  pub row : p.y ≡ pos (from + down)
+  pub within : p.x ≤ cols
+  pub off_start : 0 < n → 0 < p.x
+
+pub tip-start : (cols from : ℕ) → IsTip cols from 0 (record { x = 0; y = pos from })
+tip-start cols from = record { down = 0; columns = omega arith; row = ap pos (let e : from ≡ from + 0 = omega arith in e); within = omega arith; off_start = λ h. absurd (omega (arith, h)) }
+
+-- one more column
+pub tip-step : (cols from n : ℕ) (p : Place) → 0 < cols → IsTip cols from n p → IsTip cols from (n + 1) (next_place cols (Wide 1) p)
+tip-step cols from n p some h = by (leb (p.x + 1) cols) refl
+  where
+    by : (b : Bool) → leb (p.x + 1) cols ≡ b → IsTip cols from (n + 1) (next_place cols (Wide 1) p)
+    by true e = rw e (let fits = leb-true (p.x + 1) cols e in record { down = h.down; columns = omega (arith, h.columns); row = h.row; within = omega (arith, fits); off_start = λ z. omega arith })
+    by false e =
+        let full : p.x ≡ cols = omega (arith, leb-false (p.x + 1) cols e, h.within) in
+        rw e (record {
+          down = h.down + 1;
+          columns = omega (arith, add-mul h.down 1 cols, h.columns, full);
+          row = ap (λ y. y +ℤ pos 1) h.row ∙ ap pos (let f : from + h.down + 1 ≡ from + (h.down + 1) = omega arith in f);
+          within = omega (arith, some);
+          off_start = λ z. omega arith;
+        })
+
+-- ---- by division
+
+-- before the last column or in it
+pub record IsInside (cols n : ℕ) (down x : ℕ) : Type 0 where
+  pub col : n % cols ≡ x
+  pub row : n / cols ≡ down
+
+pub tip-inside : (cols from n : ℕ) (p : Place) → (h : IsTip cols from n p) → p.x < cols → IsInside cols n h.down p.x
+tip-inside cols from n p h less = record {
+  col = ap (λ m. m % cols) h.columns ∙ mul-add-mod_self_right h.down cols p.x ∙ mod-eq_of_lt less;
+  row = ap (λ m. m / cols) h.columns ∙ mul-add-div_right (omega (arith, less)) h.down p.x ∙ (let none = div-eq_of_lt less in omega (arith, none));
+}
+
+pub tip-off : (cols from n : ℕ) (p : Place) → IsTip cols from n p → p.x < cols → n % cols ≡ 0 → n ≡ 0
+tip-off cols from n p h less none = elim (cases_lt 0 n) [
+  | inl some ↦ absurd (omega (arith, none, (tip-inside cols from n p h less).col, h.off_start some))
+  | inr nothing ↦ omega arith
+]
+
+-- after the last column
+pub tip-full : (cols from n : ℕ) (p : Place) → 0 < cols → (h : IsTip cols from n p) → p.x ≡ cols → IsInside cols n (h.down + 1) 0
+tip-full cols from n p some h full =
+    let whole : n ≡ (h.down + 1) * cols + 0 = omega (arith, add-mul h.down 1 cols, h.columns, full) in
+    record {
+      col = ap (λ m. m % cols) whole ∙ mul-add-mod_self_right (h.down + 1) cols 0 ∙ mod-eq_of_lt some;
+      row = ap (λ m. m / cols) whole ∙ mul-add-div_right some (h.down + 1) 0 ∙ (let none = div-eq_of_lt some in omega (arith, none));
+    }
+
+-- ---- texts
+
+-- a printable character takes one column
+pub printable-piece : (ch : ℕ) → is_printable ch ≡ true → plain_piece ch ≡ Wide 1
+printable-piece ch h =
+    let low : 32 ≤ ch = leb-true _ _ (and_parts (leb 32 ch) (leb ch 126) h).0 in
+    rw (ne_eqb ch 13 (λ e. omega arith), ne_eqb ch 10 (λ e. omega arith)) refl
+
+-- where the characters of a text lead
+abbrev pub after : ℕ → List ℕ → Place → Place
+after cols text p = end_of_pieces cols (map plain_piece text) p
+
+end-append : (cols : ℕ) (ps more : List Piece) (p : Place) → end_of_pieces cols (ps ++ more) p ≡ end_of_pieces cols more (end_of_pieces cols ps p)
+end-append cols [] more p = refl
+end-append cols (piece ∷ ps) more p = end-append cols ps more (next_place cols piece p)
+
+pub after-append : (cols : ℕ) (a b : List ℕ) (p : Place) → after cols (a ++ b) p ≡ after cols b (after cols a p)
+after-append cols a b p = ap (λ ps. end_of_pieces cols ps p) (map-append plain_piece a b) ∙ end-append cols (map plain_piece a) (map plain_piece b) p
+
+pub tip-typed : (cols from n : ℕ) (text : List ℕ) (p : Place) → 0 < cols → list_all is_printable text ≡ true → IsTip cols from n p → IsTip cols from (n + length text) (after cols text p)
+tip-typed cols from n [] p some h tip = (let e : n ≡ n + 0 = omega arith in rw (← e) tip)
+tip-typed cols from n (ch ∷ text) p some h tip =
+    let both = and_parts (is_printable ch) (list_all is_printable text) h in
+    let e : n + 1 + length text ≡ n + suc (length text) = omega arith in
+    rw (printable-piece ch both.0) (rw (← e) (tip-typed cols from (n + 1) text (next_place cols (Wide 1) p) some both.1 (tip-step cols from n p some tip)))
+
+-- a plain text leads where its characters lead
+pub plain-pieces : (text : List ℕ) → list_all is_plain text ≡ true → pieces text ≡ map plain_piece text
+unfolding pieces
+plain-pieces text h = rw h refl
+
+-- attributes and printable texts
+pub tip-changes : (cols from n : ℕ) (changes : Batch) (p : Place) → 0 < cols → list_all is_typing changes ≡ true → IsTip cols from n p
+    → IsTip cols from (n + length (typed_text changes)) (place_after_all cols changes p)
+tip-changes cols from n [] p some h tip = (let e : n ≡ n + 0 = omega arith in rw (← e) tip)
+tip-changes cols from n (Text text ∷ changes) p some h tip =
+    let both = and_parts (list_all is_printable text) (list_all is_typing changes) h in
+    let e : n + length text + length (typed_text changes) ≡ n + length (text ++ typed_text changes) = omega (arith, length-append text (typed_text changes)) in
+    let here : end_of_pieces cols (pieces text) p ≡ after cols text p = ap (λ ps. end_of_pieces cols ps p) (plain-pieces text (plain_from_printable text both.0)) in
+    rw (here, ← e) (tip-changes cols from (n + length text) changes (after cols text p) some both.1 (tip-typed cols from n text p some both.0 tip))
+tip-changes cols from n (Attribute x ∷ changes) p some h tip = tip-changes cols from n changes p some h tip
+tip-changes cols from n (AllAttributes x ∷ changes) p some h tip = tip-changes cols from n changes p some h tip
+tip-changes cols from n (change ∷ changes) p some h tip = absurd (false≢true h)
+
+-- ---- the end of a row
 
 -- the cell for the cursor after n columns
 tip-cell : (cols from n : ℕ) (p : Place) → 0 < cols → IsTip cols from n p → begins_at cols 1 p ≡ record { x = n % cols; y = pos (from + n / cols) }
@@ -42,31 +145,21 @@ ended cols from n p some h = by (leb (p.x + 1) cols) refl
     by true e =
         let fits = leb-true (p.x + 1) cols e in
         let at = tip-inside cols from n p h (omega (arith, fits)) in
-        let no_edge : row_edge cols n ≡ [] = none n p.x at.col h.off_start in
+        let none = no-edge cols n (tip-off cols from n p h (omega (arith, fits))) in
         let down : p.y +ℤ pos 1 ≡ pos (from + rows_taken cols n) = ap (λ y. y +ℤ pos 1) h.row ∙ ap pos (let f : from + h.down + 1 ≡ from + (1 + n / cols) = omega (arith, at.row) in f) in
-        rw no_edge (ap (λ y. record { x = 0; y = y }) down)
-      where
-        none : (n x : ℕ) → n % cols ≡ x → (0 < n → 0 < x) → row_edge cols n ≡ []
-        none zero x col off = refl
-        none (suc m) x col off =
-            let some_x : 0 < x = off (omega arith) in
-            rw (le-leb 1 (suc m) (omega arith), ne_eqb (suc m % cols) 0 (λ z. omega (arith, z, col, some_x))) refl
+        rw none (ap (λ y. record { x = 0; y = y }) down)
     by false e =
         let full : p.x ≡ cols = omega (arith, leb-false (p.x + 1) cols e, h.within) in
         let at = tip-full cols from n p some h full in
-        let filled : 0 < n = omega (arith, h.columns, full, some) in
-        let an_edge : row_edge cols n ≡ blank ∷ [] = rw (le-leb 1 n filled, eq-eqb (n % cols) 0 at.col) refl in
+        let space = an-edge cols n (omega (arith, h.columns, full, some)) at.col in
         let down : p.y +ℤ pos 1 +ℤ pos 1 ≡ pos (from + rows_taken cols n) =
         ap (λ y. y +ℤ pos 1 +ℤ pos 1) h.row ∙ ap pos (let f : from + h.down + 1 + 1 ≡ from + (1 + n / cols) = omega (arith, at.row) in f) in
-        rw an_edge (rw e (ap (λ y. record { x = 0; y = y }) down))
+        rw space (rw e (ap (λ y. record { x = 0; y = y }) down))
 
 -- ---- the cell after a text that begins in a row after n columns
 
 abbrev cell_after : ℕ → ℕ → ℕ → ℕ → List ℕ → Place
 cell_after cols continuation from n text = record { x = column_after cols n continuation (rows_of_text text); y = pos (from + rows_down cols n continuation (rows_of_text text)) }
-
-same-cell : (p q : Place) → p.x ≡ q.x → p.y ≡ q.y → p ≡ q
-same-cell p q x y = ap (λ (n : ℕ). record { x = n; y = p.y }) x ∙ ap (λ n. record { x = q.x; y = n }) y
 
 -- after a line feed
 cell-below : (cols continuation from n : ℕ) (text : List ℕ)
@@ -96,55 +189,34 @@ seam cols from n continuation rest p some tip =
     ∙ after-append cols continuation rest (after cols (cr ∷ lf ∷ []) (after cols edge p))
     ∙ ap (λ q. after cols rest (after cols continuation q)) (sym (after-append cols edge (cr ∷ lf ∷ []) p) ∙ ended cols from n p some tip)
 
-abbrev leads : ℕ → List ℕ → ℕ → List ℕ → Place → Place
-leads cols continuation n text p = begins_at cols 1 (after cols (spread cols continuation n text) p)
+-- where the text that shows rows leads: some columns from the beginning of its last row on, in the cell after the text
+pub record SpreadTip (cols : ℕ) (continuation : List ℕ) (from n : ℕ) (text : List ℕ) (p : Place) : Type 0 where
+  pub last : ℕ
+  pub tip : IsTip cols last (columns_behind (length continuation) n text) (after cols (spread cols continuation n text) p)
+  pub cell : begins_at cols 1 (after cols (spread cols continuation n text) p) ≡ cell_after cols (length continuation) from n text
 
--- the text that shows rows leads there
-spread-leads : (cols : ℕ) (continuation : List ℕ) (from n : ℕ) (text : List ℕ) (p : Place) → 0 < cols
-    → list_all is_printable continuation ≡ true → list_all is_row_character text ≡ true → IsTip cols from n p
-    → leads cols continuation n text p ≡ cell_after cols (length continuation) from n text
-spread-leads cols continuation from n [] p some c h tip = tip-cell cols from n p some tip ∙ (let none : n ≡ n + 0 = omega arith in ap (λ m. record { x = m % cols; y = pos (from + m / cols) }) none)
-spread-leads cols continuation from n (ch ∷ text) p some c h tip =
-    let both = and_parts (is_row_character ch) (list_all is_row_character text) h in
-    by both.0 (λ f m q t. spread-leads cols continuation f m text q some c both.1 t) (eqb ch lf) refl
-  where
-    by : is_row_character ch ≡ true
-        → ((f m : ℕ) (q : Place) → IsTip cols f m q → leads cols continuation m text q ≡ cell_after cols (length continuation) f m text)
-        → (x : Bool) → eqb ch lf ≡ x → leads cols continuation n (ch ∷ text) p ≡ cell_after cols (length continuation) from n (ch ∷ text)
-    by mine so true e =
-        let below = from + rows_taken cols n in
-        let start : Place = record { x = 0; y = pos below } in
-        let rest = spread cols continuation (length continuation) text in
-        let begun : IsTip cols below (0 + length continuation) (after cols continuation start) = tip-typed cols below 0 continuation start some c (tip-start cols below) in
-        let same : 0 + length continuation ≡ length continuation = omega arith in
-        rw e (ap (begins_at cols 1) (seam cols from n continuation rest p some tip) ∙ so below (length continuation) (after cols continuation start) (rw same at begun) ∙ cell-below cols (length continuation) from n text)
-    by mine so false e =
-        let piece = printable-piece ch (printable-row ch mine e) in
-        rw e (rw piece (so from (n + 1) (next_place cols (Wide 1) p) (tip-step cols from n p some tip)) ∙ cell-behind cols (length continuation) from n ch text)
-
--- its last row
 pub spread-tip : (cols : ℕ) (continuation : List ℕ) (from n : ℕ) (text : List ℕ) (p : Place) → 0 < cols
-    → list_all is_printable continuation ≡ true → list_all is_row_character text ≡ true → IsTip cols from n p
-    → (last : ℕ) × IsTip cols last (columns_behind (length continuation) n text) (after cols (spread cols continuation n text) p)
-spread-tip cols continuation from n [] p some c h tip = (from, tip)
-spread-tip cols continuation from n (ch ∷ text) p some c h tip =
-    let both = and_parts (is_row_character ch) (list_all is_row_character text) h in
-    by both.0 (λ f m q t. spread-tip cols continuation f m text q some c both.1 t) (eqb ch lf) refl
-  where
-    by : is_row_character ch ≡ true
-        → ((f m : ℕ) (q : Place) → IsTip cols f m q → (last : ℕ) × IsTip cols last (columns_behind (length continuation) m text) (after cols (spread cols continuation m text) q))
-        → (x : Bool) → eqb ch lf ≡ x → (last : ℕ) × IsTip cols last (columns_behind (length continuation) n (ch ∷ text)) (after cols (spread cols continuation n (ch ∷ text)) p)
-    by mine so true e =
-        let below = from + rows_taken cols n in
-        let start : Place = record { x = 0; y = pos below } in
-        let rest = spread cols continuation (length continuation) text in
-        let begun : IsTip cols below (0 + length continuation) (after cols continuation start) = tip-typed cols below 0 continuation start some c (tip-start cols below) in
-        let same : 0 + length continuation ≡ length continuation = omega arith in
-        let went = so below (length continuation) (after cols continuation start) (rw same at begun) in
-        rw e (went.0, rw (seam cols from n continuation rest p some tip) went.1)
-    by mine so false e =
-        let piece = printable-piece ch (printable-row ch mine e) in
-        rw e (rw piece (so from (n + 1) (next_place cols (Wide 1) p) (tip-step cols from n p some tip)))
+    → list_all is_printable continuation ≡ true → list_all is_row_character text ≡ true → IsTip cols from n p → SpreadTip cols continuation from n text p
+spread-tip cols continuation from n text p some c h tip =
+    over_rows (length continuation) (λ n text. (from : ℕ) (p : Place) → IsTip cols from n p → SpreadTip cols continuation from n text p)
+    (λ n from p tip. record {
+      last = from;
+      tip = tip;
+      cell = tip-cell cols from n p some tip ∙ (let none : n ≡ n + 0 = omega arith in ap (λ m. record { x = m % cols; y = pos (from + m / cols) }) none);
+    })
+    (λ n text so from p tip.
+    let below = from + rows_taken cols n in
+    let start : Place = record { x = 0; y = pos below } in
+    let begun : IsTip cols below (0 + length continuation) (after cols continuation start) = tip-typed cols below 0 continuation start some c (tip-start cols below) in
+    let same : 0 + length continuation ≡ length continuation = omega arith in
+    let went = so below (after cols continuation start) (rw same at begun) in
+    let there = seam cols from n continuation (spread cols continuation (length continuation) text) p some tip in
+    record { last = went.last; tip = rw there went.tip; cell = ap (begins_at cols 1) there ∙ went.cell ∙ cell-below cols (length continuation) from n text })
+    (λ n ch text printable e so from p tip.
+    let piece = printable-piece ch printable in
+    let went = so from (next_place cols (Wide 1) p) (tip-step cols from n p some tip) in
+    record { last = went.last; tip = rw e (rw piece went.tip); cell = rw e (rw piece went.cell ∙ cell-behind cols (length continuation) from n ch text) })
+    n text h from p tip
 
 -- ---- the cursor
 
@@ -173,7 +245,7 @@ settled-cell cols prompt continuation before rest some h =
     let from_0 : 0 + rows_down cols n (length continuation) (rows_of_text before) ≡ rows_down cols n (length continuation) (rows_of_text before) = omega arith in
     ap (λ w. begins_at cols w (place_after_text cols (take (length first) (first ++ last)) start)) needs
     ∙ ap (begins_at cols 1) leads_to
-    ∙ spread-leads cols continuation 0 n before start some h.printable_continuation h.rows_before (start-tip cols prompt some h.printable_prompt)
+    ∙ (spread-tip cols continuation 0 n before start some h.printable_continuation h.rows_before (start-tip cols prompt some h.printable_prompt)).cell
     ∙ ap (λ m. record { x = column_after cols n (length continuation) (rows_of_text before); y = pos m }) from_0
 
 -- a screen that is measured has columns
@@ -229,15 +301,7 @@ all-in-range cols n (ch ∷ text) p some most low h =
 columns-on : (cols n continuation : ℕ) (row : List ℕ) (more : List (List ℕ)) → 0 < cols
     → n ≤ rows_down cols n continuation (row ∷ more) * cols + column_after cols n continuation (row ∷ more)
 columns-on cols n continuation row [] some = omega (arith, div-add-mod' (n + length row) cols)
-columns-on cols n continuation row (next ∷ more) some =
-    omega (
-      arith,
-      div-add-mod' (n + length row) cols,
-      mod_below (n + length row) cols some,
-      add-mul (rows_taken cols (n + length row)) (rows_down cols continuation continuation (next ∷ more)) cols,
-      add-mul 1 ((n + length row) / cols) cols,
-      one-mul cols,
-    )
+columns-on cols n continuation row (next ∷ more) some = omega (arith, div-add-mod' (n + length row) cols, mod_below (n + length row) cols some)
 
 inside-column : (cols n continuation : ℕ) (row : List ℕ) (more : List (List ℕ)) → 0 < cols → column_after cols n continuation (row ∷ more) < cols
 inside-column cols n continuation row [] some = mod_below (n + length row) cols some
@@ -254,18 +318,14 @@ ahead cols n down x p q some tip qx qy inside on = le-leb p.x (rows_between p q 
   | inl above ↦
       let d : ℕ = tip.down - (down + 1) in
       let e : tip.down ≡ down + 1 + d = omega (arith, above) in
-      let m : tip.down * cols ≡ down * cols + cols + d * cols = ap (λ i. i * cols) e ∙ omega (arith, add-mul (down + 1) d cols, add-mul down 1 cols, one-mul cols) in
-      absurd (omega (arith, tip.columns, on, inside, m))
+      absurd (omega (arith, tip.columns, on, inside, ap (λ i. i * cols) e))
   | inr below ↦
       let d : ℕ = down - tip.down in
       let e : down ≡ tip.down + d = omega (arith, below) in
-      let between : rows_between p q ≡ d = ap at_least_0 (ap (λ y. y -ℤ p.y) qy ∙ ap (λ y. pos down -ℤ y) tip.row) ∙ at_least (omega (arith, below)) in
-      let m : down * cols ≡ tip.down * cols + d * cols = ap (λ i. i * cols) e ∙ add-mul tip.down d cols in
-      rw (between, qx) (omega (arith, tip.columns, on, m))
+      let between : rows_between p q ≡ d = ap at_least_0 (ap (λ y. y -ℤ p.y) qy ∙ ap (λ y. pos down -ℤ y) tip.row)
+      ∙ clipped (pos down -ℤ pos (0 + tip.down)) down tip.down (omega (arith, ints)) in
+      rw (between, qx) (omega (arith, tip.columns, on, ap (λ i. i * cols) e))
 ])
-  where
-    at_least : tip.down ≤ down → at_least_0 (pos down -ℤ pos (0 + tip.down)) ≡ down - tip.down
-    at_least h = clipped (pos down -ℤ pos (0 + tip.down)) down tip.down (omega (arith, ints))
 
 pub row_column_is_settled : RowColumnIsSettled
 row_column_is_settled cols prompt continuation before rest h one most low =

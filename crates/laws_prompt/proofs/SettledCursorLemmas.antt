@@ -12,13 +12,11 @@ use Rattle.tw_surface.specs.declared.measure.Piece.{Piece}
 use Rattle.tw_surface.specs.declared.measure.Piece.TheVariants as piece
 use Rattle.tw_surface.specs.Characters.{is_plain}
 use Rattle.tw_surface.specs.Paintings.{cursor_place}
-use Rattle.tw_surface.specs.PaintingBatches.{SizedScene}
 use Rattle.tw_surface.specs.Scenes.{Scene}
 use Rattle.tw_surface.specs.Places.{Place, pieces, plain_piece, cluster_piece, end_of_pieces, begins_at}
-use Rattle.laws_screens.specs.Glyphs.{Glyph, glyphs_of_piece, glyphs, typed_glyphs, IsMeasuredWide}
+use Rattle.laws_screens.specs.Glyphs.{Glyph, glyphs_of_piece, glyphs, typed_glyphs}
 use Rattle.laws_screens.specs.Glyphs.Glyph.{Cluster}
 use Rattle.laws_screens.specs.CursorCells.{place_after_glyphs}
-use Rattle.laws_screens.specs.PaintedAlike.{ArePaintedAs}
 use Rattle.laws_screens.specs.Pens.{Pen}
 use Rattle.laws_screens.proofs.CursorCellLemmas.{cursor_stands_before, cursor_stands_behind}
 use Rattle.tw_line.specs.Cut.{Cut}
@@ -26,7 +24,6 @@ use Rattle.tw_host.specs.HostRules.{HostRules}
 use Rattle.tw_hosts.specs.Settling.{is_parted, cell_pieces, character_piece, settled_pieces, needed, needed_by_text, line_start, place_after_text}
 use Rattle.tw_hosts.proofs.SettlingLemmas.{cursor_is_settled}
 use Rattle.tw_lineedit.specs.ScreenRuns.{sized_scene}
-use Rattle.tw_lineedit.specs.Stations.{Station}
 use Rattle.laws_runs.specs.DrawnRuns.{play_stations}
 use Rattle.laws_runs.proofs.DrawnRunLemmas.{last_alike, drawn_paintings}
 use Rattle.laws_prompt.specs.SettledCursors.{before_cursor, after_cursor, is_whole_text, AnswersSettled, LineIsTyped, SettledIsBefore, SettledIsBehind, SettledStandsOn, SettledStandsOnBlank}
@@ -52,10 +49,8 @@ whole_pieces text h = ap (λ l. if list_all is_plain text then map plain_piece t
 -- the first piece, by the first glyph
 first_needed : (cluster : List ℕ) (q : Piece) (more : List Glyph) (c : List ℕ) (v : ℕ) (behind : List Glyph) (others : List Piece)
     → glyphs_of_piece cluster q ++ more ≡ Cluster c v ∷ behind → needed (q ∷ others) ≡ max 1 v
-first_needed cluster piece.Cr more c v behind others e = absurd (cc (e))
-first_needed cluster piece.Lf more c v behind others e = absurd (cc (e))
-first_needed cluster piece.CrLf more c v behind others e = absurd (cc (e))
 first_needed cluster (piece.Wide u) more c v behind others e = let same : u ≡ v = cc (e) in ap (max 1) same
+first_needed cluster _ more c v behind others e = absurd (cc (e))
 
 all_needed : {X : Type 0} (cluster : X → List ℕ) (q : X → Piece) (xs : List X) (c : List ℕ) (v : ℕ) (behind : List Glyph)
     → flat_map (λ x. glyphs_of_piece (cluster x) (q x)) xs ≡ Cluster c v ∷ behind → needed (map q xs) ≡ max 1 v
@@ -117,16 +112,11 @@ line_is_typed cut is breaks =
 -- ---- at a station of a run
 
 module _ {V A C : Type 0} (rules : HostRules V) (pen : Pen A C) where
-  -- the station is measured
-  measured_there : (earlier : List (Station V)) (station : Station V) (measured : List SizedScene)
-      → ArePaintedAs pen (map (sized_scene rules) (earlier ++ station ∷ [])) (measured ++ sized_scene rules station ∷ []) → IsMeasuredWide (sized_scene rules station)
-  measured_there earlier station measured alike = (last_alike pen (sized_scene rules) earlier station measured (sized_scene rules station) alike).measured
-
   pub settled_stands_on : SettledStandsOn rules pen
   settled_stands_on f rows cuts v a earlier station later measured prompt cut before cluster columns behind k follows =
       let scene : Scene = (sized_scene rules station).scene in
       let shown = (drawn_paintings rules pen f rows cuts v a earlier station later measured (sized_scene rules station) before k.comes).shown in
-      let wide = measured_there earlier station measured k.comes.alike in
+      let wide = (last_alike pen (sized_scene rules) earlier station measured (sized_scene rules station) k.comes.alike).measured in
       cursor_stands_before pen station.size.cols _ scene (glyphs (before_cursor cut)) cluster columns behind
       (play_stations rules pen rows cuts v a (earlier ++ station ∷ []) before) wide.0 wide.1
       (settled_is_before station.size.cols prompt cut scene cluster columns behind k.answers follows) shown.fresh
@@ -135,6 +125,6 @@ module _ {V A C : Type 0} (rules : HostRules V) (pen : Pen A C) where
   settled_stands_on_blank f rows cuts v a earlier station later measured prompt cut before k none =
       let scene : Scene = (sized_scene rules station).scene in
       let shown = (drawn_paintings rules pen f rows cuts v a earlier station later measured (sized_scene rules station) before k.comes).shown in
-      let wide = measured_there earlier station measured k.comes.alike in
+      let wide = (last_alike pen (sized_scene rules) earlier station measured (sized_scene rules station) k.comes.alike).measured in
       cursor_stands_behind pen station.size.cols _ scene (play_stations rules pen rows cuts v a (earlier ++ station ∷ []) before) wide.0 wide.1
       (settled_is_behind station.size.cols prompt cut scene k.answers none) shown.fresh

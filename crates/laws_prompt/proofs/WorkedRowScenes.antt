@@ -1,52 +1,70 @@
--- Scenes with rows, by computation: a letter with an accent and a row under it, a line in a colour, and rows of Han.
-use Rattle.std.proofs.Common.{◌≡◌, ℕ, List, [], ◌∷◌, true, false, refl, arith}
+-- Scenes with rows of wide characters and marks, and the cursor of a host that answers the settled column, by
+-- computation and by the laws.
+use Rattle.std.proofs.Common.{◌≡◌, ℕ, pos, List, [], ◌∷◌, ◌++◌, false, refl, ap, arith}
 use Rattle.std.proofs.lemmas.Str.{IsUtf8-from_is_utf8}
 use Rattle.std.specs.Str.{is_utf8}
-use Rattle.unicode_segmentation.proofs.Computing.{unicode_segmentation}
-use Rattle.unicode_width.proofs.Computing.{unicode_width}
 use Rattle.tw_surface.specs.declared.cell.AttributeChange.{AttributeChange}
-use Rattle.tw_surface.specs.ChangeView.{Batch}
 use Rattle.tw_surface.specs.ChangeView.{Attribute, Text}
-use Rattle.tw_surface.specs.Paintings.{painting}
-use Rattle.tw_surface.specs.Places.{pieces}
+use Rattle.tw_surface.specs.Paintings.{cursor_place, painting}
+use Rattle.tw_surface.specs.Pictures.{blank}
+use Rattle.tw_surface.specs.Places.{Place}
 use Rattle.tw_surface.specs.Scenes.{Scene}
 use Rattle.tw_surface.specs.Scenes.Lower.{NoLower}
+use Rattle.laws_screens.specs.CursorCells.{StandsOn}
 use Rattle.laws_screens.specs.Glyphs.{glyphs}
+use Rattle.laws_screens.specs.Glyphs.Glyph.{Cluster}
 use Rattle.laws_screens.specs.Pens.{strokes_of}
-use Rattle.laws_screens.specs.StyledCells.{characters, styled}
 use Rattle.laws_screens.specs.RowScenes.{folded, HasRows}
+use Rattle.laws_screens.specs.SceneSheets.{sheet_of}
+use Rattle.laws_screens.specs.Sheets.{IsFreshSheet}
+use Rattle.laws_screens.specs.Strokes.{PictureOf}
+use Rattle.laws_screens.specs.StyledCells.{characters, clusters, styled}
+use Rattle.laws_screens.proofs.CursorCellLemmas.{cursor_stands_before}
 use Rattle.tw_line.specs.Cut.{Cut}
-use Rattle.tw_hosts.specs.Settling.{is_settled, needed_by_text, settled_column, settled_pieces}
-use Rattle.laws_prompt.specs.MeasuredRows.{IsMeasuredRow, HasMeasuredRows}
-use Rattle.laws_prompt.specs.PlainRows.{first_row_changes, other_rows}
+use Rattle.tw_hosts.specs.Settling.{settled_column, settled_pieces, needed_by_text}
+use Rattle.laws_runs.proofs.WorkedParts.{worked_runs, prompt, accented, han, crab}
+use Rattle.laws_prompt.specs.MeasuredRows.{IsMeasuredRow, HasMeasuredRows, first_row_changes, other_rows}
+use Rattle.laws_prompt.specs.SettledCursors.{AnswersSettled}
+use Rattle.laws_prompt.proofs.MeasuredRowLemmas.{measured_rows_are_rows}
+use Rattle.laws_prompt.proofs.SettledCursorLemmas.{settled_is_before}
 
--- "> " and a line of these changes, its cursor at a column
-abbrev scene_of : Batch → ℕ → Scene
-scene_of line column = record { prompt = Text (62 ∷ 32 ∷ []) ∷ []; line = line; column = column; lower = NoLower; cleared = false }
+-- "> " and a line, its cursor at a column
+abbrev scene_of : List ℕ → ℕ → Scene
+scene_of line column = record { prompt = Text prompt ∷ []; line = Text line ∷ []; column = column; lower = NoLower; cleared = false }
 
--- an accent, which is two bytes, and CR LF and "b" under it
-abbrev accent : Scene
-accent = scene_of (Text (195 ∷ 169 ∷ 13 ∷ 10 ∷ 98 ∷ []) ∷ []) 1
+-- ---- a letter with an accent and a character of Han, and an emoji under them
 
-accent_has_rows : HasRows styled 5 accent (Text (195 ∷ 169 ∷ []) ∷ []) (Text (98 ∷ []) ∷ [])
-unfolding glyphs pieces unicode_segmentation unicode_width
-accent_has_rows = record {
+abbrev two_rows : Scene
+two_rows = scene_of ((accented ++ han) ++ 13 ∷ 10 ∷ crab) 1
+
+first_fits : IsMeasuredRow 6 (accented ++ han)
+unfolding worked_runs is_utf8
+first_fits = record { utf8 = IsUtf8-from_is_utf8 (accented ++ han) refl; within = refl }
+
+second_fits : IsMeasuredRow 6 crab
+unfolding worked_runs is_utf8
+second_fits = record { utf8 = IsUtf8-from_is_utf8 crab refl; within = refl }
+
+-- at six columns they have rows
+have_rows : HasRows styled 6 two_rows (Text (accented ++ han) ∷ []) (Text crab ∷ [])
+unfolding worked_runs
+have_rows = measured_rows_are_rows styled 6 two_rows (record {
   wide = omega arith;
-  line = refl;
-  drawn = refl;
-  kept = refl;
-  off_edge = λ e. (let off : 3 ≡ 5 = e in omega (arith, off));
-  measured = record { prompt = refl; line = refl; lower = (refl, refl) };
-}
+  prompt = refl;
+  line = ((first_fits, (second_fits, tt)), tt);
+  lower = tt;
+  pair = refl;
+  off_edge = λ e. (let off : 5 ≡ 6 = e in omega (arith, off));
+})
 
--- at three columns the first row ends after the last one, and no space stands there
-edge_is_missing : HasRows styled 3 accent (Text (195 ∷ 169 ∷ []) ∷ []) (Text (98 ∷ []) ∷ []) → ⊥
-unfolding glyphs pieces unicode_segmentation unicode_width
+-- at five columns the first row ends after the last one, and no space stands there
+edge_is_missing : HasMeasuredRows 5 two_rows → ⊥
+unfolding worked_runs
 edge_is_missing h = h.off_edge refl
 
 -- a preview would be painted otherwise then
-missing_differs : strokes_of characters tt (painting 3 accent).changes ≡ strokes_of characters tt (painting 3 (folded 3 accent (Text (195 ∷ 169 ∷ []) ∷ []) (Text (98 ∷ []) ∷ []))).changes → ⊥
-unfolding glyphs pieces unicode_segmentation unicode_width
+missing_differs : strokes_of characters tt (painting 5 two_rows).changes ≡ strokes_of characters tt (painting 5 (folded 5 two_rows (Text (accented ++ han) ∷ []) (Text crab ∷ []))).changes → ⊥
+unfolding worked_runs
 missing_differs h = cc (h)
 
 -- the rows after the first are under the attributes that are set before it
@@ -54,36 +72,30 @@ colored : (a : AttributeChange) → let line = Attribute a ∷ Text (97 ∷ 13 �
     (first_row_changes line ≡ Attribute a ∷ Text (97 ∷ []) ∷ []) × (other_rows line ≡ Attribute a ∷ Text (98 ∷ []) ∷ [])
 colored a = (refl, refl)
 
--- ---- rows of Han, at five columns: the second character does not fit in the first row of the screen
+-- ---- the cursor at five columns before an emoji between two characters of Han, which begins the second row
 
-abbrev han : List ℕ
-han = 230 ∷ 188 ∷ 162 ∷ 229 ∷ 173 ∷ 151 ∷ []
+abbrev cut : Cut
+cut = record { line = han ++ (crab ++ han); cursor = 3 }
 
-abbrev wide : Scene
-wide = scene_of (Text (230 ∷ 188 ∷ 162 ∷ 229 ∷ 173 ∷ 151 ∷ 13 ∷ 10 ∷ 230 ∷ 188 ∷ 162 ∷ 229 ∷ 173 ∷ 151 ∷ []) ∷ []) 3
+abbrev scene : Scene
+scene = scene_of cut.line (settled_column 5 prompt cut)
 
-han_fits : IsMeasuredRow 5 han
-unfolding glyphs is_utf8 unicode_segmentation unicode_width
-han_fits = record { utf8 = IsUtf8-from_is_utf8 han refl; within = refl }
+-- the column counts the one that the first row leaves empty
+three_columns : (scene.column ≡ 3) × (cursor_place 5 scene ≡ record { x = 0; y = pos 1 })
+unfolding worked_runs settled_pieces needed_by_text
+three_columns = (refl, refl)
 
-wide_has_rows : HasMeasuredRows 5 wide
-unfolding glyphs pieces unicode_segmentation unicode_width
-wide_has_rows = record {
-  wide = omega arith;
-  prompt = refl;
-  line = ((han_fits, (han_fits, tt)), tt);
-  lower = tt;
-  pair = refl;
-  off_edge = λ e. (let off : 2 ≡ 5 = e in omega (arith, off));
-}
+not_at_edge : cursor_place 5 scene ≡ record { x = 4; y = pos 0 } → ⊥
+unfolding worked_runs settled_pieces needed_by_text
+not_at_edge h = let off : 0 ≡ 4 = ap (λ (p : Place). p.x) h in omega (arith, off)
 
--- at six columns its first row ends after the last one, and is none
-wide_ends_at_edge : HasMeasuredRows 6 wide → ⊥
-unfolding pieces unicode_segmentation unicode_width
-wide_ends_at_edge h = h.off_edge refl
+answers : AnswersSettled 5 prompt cut scene
+unfolding worked_runs settled_pieces needed_by_text
+answers = record { settled = refl; prompt_is = refl; line_is = refl; column_is = refl; whole_before = refl; whole_after = refl }
 
--- the cursor before the second character: the settled column leads to the next row, and the plain one does not
-wide_cursor : let cut : Cut = record { line = han; cursor = 3 } in
-    (is_settled 5 (62 ∷ 32 ∷ []) cut ≡ true) × (settled_column 5 (62 ∷ 32 ∷ []) cut ≡ 3) × (settled_column 6 (62 ∷ 32 ∷ []) cut ≡ 2)
-unfolding pieces settled_pieces needed_by_text unicode_segmentation unicode_width
-wide_cursor = (refl, refl, refl)
+-- so where the painting is fresh, the cursor stands on both cells of the emoji
+on_emoji : (s : ℕ) (after : PictureOf (List ℕ)) → IsFreshSheet 5 s (blank ∷ []) (sheet_of clusters 5 scene) after → StandsOn clusters crab 2 after
+unfolding worked_runs
+on_emoji s after fresh =
+    cursor_stands_before clusters 5 s scene (glyphs han) crab 2 (Cluster han 2 ∷ []) after (omega arith) (record { prompt = refl; line = refl; lower = tt })
+    (settled_is_before 5 prompt cut scene crab 2 (Cluster han 2 ∷ []) answers (refl, omega arith)) fresh

@@ -1,11 +1,7 @@
-pub mod SearchRuns
 pub mod MenuRuns
-pub mod SearchEnds
+pub mod SearchRuns
 pub mod Rows
-pub mod RowColumns
-pub mod PlainRows
 pub mod MeasuredRows
 pub mod RowCells
-pub mod AnsweredRows
 pub mod LineRuns
 pub mod SettledCursors

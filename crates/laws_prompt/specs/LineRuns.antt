@@ -15,7 +15,7 @@ use Rattle.tw_lineedit.specs.ScreenRuns.{sized_scene, Comes, RendersNothing}
 use Rattle.tw_lineedit.specs.Stations.{Station}
 use Rattle.laws_runs.specs.DrawnRuns.{play_stations, closed_by}
 use Rattle.laws_prompt.specs.Rows.{rows_of_text, rows_down}
-use Rattle.laws_prompt.specs.PlainRows.{plain_folded}
+use Rattle.laws_prompt.specs.MeasuredRows.{plain_folded}
 use Rattle.laws_prompt.specs.RowCells.{ShowsLine, StandInRows}
 
 -- a station shows some line

@@ -16,13 +16,10 @@
 
 ghost use Rattle.std.specs.Prelude.{Bool};
 ghost use Rattle.laws_prompt.specs.MenuRuns.{ClosesAfterLines, TellsLines};
-ghost use Rattle.laws_prompt.specs.SearchEnds.{BringsFound, CompletesFound};
-ghost use Rattle.laws_prompt.specs.SearchRuns.{IsOffBehindLines, KnowsSearches, LeavesSearches, TellsReadings, TellsRuns};
+ghost use Rattle.laws_prompt.specs.SearchRuns.{BringsFound, CompletesFound, IsOffBehindLines, KnowsSearches, LeavesSearches, TellsReadings, TellsRuns};
 ghost use Rattle.laws_prompt.specs.LineRuns.{LinesCloseBelow, LinesStandInRows};
 ghost use Rattle.laws_prompt.specs.MeasuredRows.{MeasuredRowsAreRows, PlainRowsAreMeasured};
-ghost use Rattle.laws_prompt.specs.AnsweredRows.{RowsAnswerLine};
-ghost use Rattle.laws_prompt.specs.RowCells.{AnswersShowLines, CellsByDivision, LastRowByDivision, ShownLinesArePlain};
-ghost use Rattle.laws_prompt.specs.RowColumns.{CursorStandsInItsRow, RowColumnIsSettled, RowColumnLeadsThere};
+ghost use Rattle.laws_prompt.specs.RowCells.{RowsAnswerLine, AnswersShowLines, CellsByDivision, LastRowByDivision, ShownLinesArePlain, CursorStandsInItsRow, RowColumnIsSettled, RowColumnLeadsThere};
 ghost use Rattle.laws_prompt.specs.SettledCursors.{LineIsTyped, SettledIsBefore, SettledIsBehind, SettledStandsOn, SettledStandsOnBlank};
 ghost use Rattle.laws_screens.specs.Pens.{Pen};
 
@@ -31,6 +28,7 @@ use tw_key_parts::KeyPart;
 
 /// The settled column of the text that shows a line of printable rows leads the editor's division to the cell of the
 /// cursor in its row, so the cursor of the scene stands there. There is one on every screen of up to 65,535 columns.
+#[tactic(auto, using(crate::proofs::ColumnLemmas::row_column_leads_there, crate::proofs::ColumnLemmas::cursor_stands_in_its_row, crate::proofs::ColumnLemmas::row_column_is_settled))]
 pub fn columns()
     ensures column { RowColumnLeadsThere }
     ensures cursor { CursorStandsInItsRow }
@@ -62,6 +60,7 @@ pub fn line_runs<H: LineEditorHost>()
 /// A host that answers the settled column has its cursor before the cluster that begins the text after it, or after the
 /// line; so after each painting of a run, on a screen of any kind of cells, it stands in the first cell of that cluster,
 /// or in a blank.
+#[tactic(auto, using(crate::proofs::SettledCursorLemmas::settled_is_before, crate::proofs::SettledCursorLemmas::settled_is_behind, crate::proofs::SettledCursorLemmas::line_is_typed))]
 pub fn cursors<H: LineEditorHost, A, C>()
     ensures before { SettledIsBefore }
     ensures behind { SettledIsBehind }
@@ -81,6 +80,7 @@ pub fn watch<H: LineEditorHost>()
 
 /// A prompt knows at each event of a reading whether the editor searches, and is out of any search after a line that
 /// was accepted or cancelled.
+#[tactic(auto, using(crate::proofs::SearchRunLemmas::knows_searches, crate::proofs::SearchRunLemmas::leaves_searches))]
 pub fn searches<H: LineEditorHost, K: KeyPart>()
     ensures known { KnowsSearches K.keys H.rules }
     ensures left { LeavesSearches K.keys H.rules }
@@ -95,6 +95,7 @@ pub fn search_ends<H: LineEditorHost>()
 
 /// At each event of a reading that begins at rest the line under an open menu is the line before the completion with
 /// the candidate that the menu marks. After a line that was accepted or cancelled there is no menu.
+#[tactic(auto, using(crate::proofs::MenuRunLemmas::tells_lines, crate::proofs::MenuRunLemmas::closes_after_lines))]
 pub fn menus<H: LineEditorHost, K: KeyPart>()
     ensures told { TellsLines K.keys H.rules }
     ensures closed { ClosesAfterLines K.keys H.rules }

@@ -1,31 +1,85 @@
--- After each painting of a run a screen of any kind of cells shows the fresh painting of its station.
-use Rattle.std.proofs.Common.{◌≡◌, ℕ, ◌+◌, ◌-◌, ◌≤◌, List, [], ◌∷◌, ◌++◌, ◌∙◌, sym, ap, map, refl, arith, Option, Some, None, Bool, true, false}
-use Rattle.std.specs.List.{All}
-use Rattle.std.proofs.lemmas.List.{map-append}
-use Rattle.laws_screens.specs.Strokes.{PictureOf, InSight, resized, narrowest}
-use Rattle.tw_surface.specs.Paintings.{Mark, painting, mark_of, closing}
-use Rattle.tw_surface.specs.PaintingBatches.{SizedScene, shot_of, batches, mark_after, closing_if, closing_batch}
-use Rattle.laws_screens.specs.PaintedAlike.{IsPaintedAs, ArePaintedAs}
-use Rattle.tw_surface.proofs.BatchLemmas.{batches_after-append}
-use Rattle.laws_screens.specs.SizedBatches.{sized_after}
-use Rattle.laws_screens.proofs.SizedBatchLemmas.{sized_are, sized_batches_are}
-use Rattle.laws_screens.proofs.StationMarks.{closing_is}
-use Rattle.tw_surface.specs.ChangeView.{Batch}
-use Rattle.laws_screens.specs.Sheets.{sheet_last_row, sheet_cursor_row}
-use Rattle.laws_screens.specs.Paintings.{IsClosedSheet, cols_of, top_row, seen_row}
-use Rattle.laws_screens.proofs.PaintedLists.{top-le}
-use Rattle.laws_runs.proofs.ClearedRunLemmas.{text_prompts, up_to-is, played_since, first_since}
-use Rattle.laws_screens.specs.SceneSheets.{painting_of}
-use Rattle.laws_screens.specs.Pens.{Pen}
-use Rattle.laws_screens.specs.Screens.{blank_of}
-use Rattle.laws_screens.proofs.PaintedAlikeLemmas.{shows_stations, heals_stations, closes_stations}
+-- What a screen shows after the paintings of a run: plain calls that stack, a call that shows nothing, and the fresh
+-- painting of each station on a screen of any kind of cells, also after a clearing.
+use Rattle.std.proofs.Common.{◌≡◌, ℕ, ◌+◌, List, [], ◌∷◌, ◌++◌, false, sym, ◌∙◌, subst, length, ap, length-append, arith, true, refl, append_assoc, map, ◌-◌, ◌≤◌, Option, Some, None, Bool}
+use Rattle.std.proofs.lemmas.List.{append_cancel_left, append-nil, map-append}
+use Rattle.tw_surface.specs.Pictures.{Picture}
+use Rattle.tw_surface.specs.Fresh.{last_row}
+use Rattle.tw_surface.specs.PaintingBatches.{play_batches, closing_if, SizedScene, shot_of, batches, mark_after, closing_batch}
 use Rattle.tw_host.specs.HostRules.{HostRules}
 use Rattle.tw_lineedit.specs.Frame.{Frame}
 use Rattle.tw_lineedit.specs.Run.{run_of}
-use Rattle.tw_lineedit.specs.ScreenRuns.{sized_scene, batches_of, Comes, RendersNothing}
 use Rattle.tw_lineedit.specs.Stations.{Station}
-use Rattle.tw_lineedit.proofs.StationLemmas.{played-is, first_batches, all_taken, closing-is}
-use Rattle.laws_runs.specs.DrawnRuns.{play_stations, closed_by, play_since, DrawnPaintings, DrawnClosings, DrawnCallsStack, DrawnHealings, HealedClosings}
+use Rattle.tw_lineedit.specs.ScreenRuns.{sized_scene, batches_of, is_cleared, ReachesPlainly, first_row, ShowsFresh, Comes, RendersNothing}
+use Rattle.tw_lineedit.proofs.ScreenRunLemmas.{first_row-is, run_is_fresh, closes_below}
+use Rattle.laws_runs.specs.PlainRuns.{CallsStack, PaintsNothing}
+use Rattle.std.specs.List.{list_all, All}
+use Rattle.std.proofs.lemmas.List.Elements.{All-nil, All-cons}
+use Rattle.tw_surface.specs.Scenes.{is_text}
+use Rattle.laws_screens.specs.Screens.{HasTextPrompt, blank_of}
+use Rattle.tw_host.specs.ElementView.{ElementView, Attribute, changes_of}
+use Rattle.tw_lineedit.proofs.StationLemmas.{ArePainted, all_painted, batches_are_shots, played-is, first_batches, all_taken, closing-is}
+use Rattle.laws_screens.specs.Strokes.{PictureOf, InSight, resized, narrowest}
+use Rattle.tw_surface.specs.Paintings.{painting, mark_of, closing}
+use Rattle.laws_screens.specs.PaintedAlike.{IsPaintedAs, ArePaintedAs}
+use Rattle.tw_surface.proofs.BatchLemmas.{batches_after-append}
+use Rattle.laws_screens.proofs.SizedBatchLemmas.{sized_are, sized_batches_are}
+use Rattle.laws_screens.specs.Sheets.{sheet_last_row, sheet_cursor_row}
+use Rattle.laws_screens.specs.Paintings.{IsClosedSheet, cols_of, top_row, seen_row}
+use Rattle.laws_screens.proofs.PaintedLists.{top-le}
+use Rattle.laws_screens.specs.SceneSheets.{painting_of}
+use Rattle.laws_screens.specs.Pens.{Pen}
+use Rattle.laws_screens.proofs.PaintedAlikeLemmas.{closing_is, shows_stations, heals_stations, closes_stations}
+use Rattle.laws_runs.specs.DrawnRuns.{play_stations, closed_by, play_since, since_batches, DrawnPaintings, DrawnClosings, DrawnCallsStack, DrawnHealings, HealedClosings}
+
+module _ {V : Type 0} (rules : HostRules V) where
+  -- a painting with no clearing before it
+  later_is_fresh : (f : Frame V) (w : ℕ) (earlier : List (Station V)) (station : Station V) (later : List (Station V)) (before : Picture)
+      → ReachesPlainly rules f w earlier station later before → is_cleared rules (earlier ++ station ∷ []) ≡ false → ShowsFresh rules f (run_of rules f).taken w before.row earlier station before
+  later_is_fresh f w earlier station later before h none =
+      subst (λ (n : ℕ). ShowsFresh rules f (run_of rules f).taken w n earlier station before) (first_row-is rules f w earlier station later before h false none)
+      (run_is_fresh rules f w earlier station later before h)
+
+  -- two calls
+  pub calls_stack : CallsStack rules
+  calls_stack f g w earlier station none others second later before h nothing k clear =
+      let closed = closes_below rules f w earlier station none before h nothing in
+      let fresh = later_is_fresh g w others second later _ k clear in
+      let under : (play_batches w (closing_if (run_of rules f).mark) (play_batches w (batches_of rules (earlier ++ station ∷ [])) before)).row
+      ≡ last_row w (first_row rules before.row (earlier ++ station ∷ [])) (sized_scene rules station).scene + 1 = closed.1.row in
+      let below : ShowsFresh rules g (run_of rules g).taken w (last_row w (first_row rules before.row (earlier ++ station ∷ [])) (sized_scene rules station).scene + 1) others second _ =
+      subst (λ (s : ℕ). ShowsFresh rules g (run_of rules g).taken w s others second (play_batches w (closing_if (run_of rules f).mark) (play_batches w (batches_of rules (earlier ++ station ∷ [])) before))) under fresh in
+      (below, λ r c low inside. below.above r c low inside ∙ closed.1.same_above r c (omega arith) inside)
+
+  -- ---- of what a call shows
+
+  -- a call that paints and takes nothing shows nothing
+  pub paints_nothing : (A : Type 0) → PaintsNothing rules A
+  paints_nothing A f g result w station later before h painted shows same =
+      let first = (shows.painting w [] station later before h painted).beginning in
+      let none : batches_of rules (station ∷ []) ++ first.0 ≡ [] =
+      append_cancel_left f.terminal.batches (batches_of rules (station ∷ []) ++ first.0) [] (sym first.1 ∙ same ∙ sym (append-nil f.terminal.batches)) in
+      let empty : length (batches_of rules (station ∷ []) ++ first.0) ≡ 0 = ap length none in
+      absurd (omega (arith, simp length-append at (rw h.painted at empty)))
+
+-- ---- on a screen of any kind of cells
+
+-- elements become attributes and texts
+changes_are_texts : (elements : List ElementView) → list_all is_text (changes_of elements) ≡ true
+changes_are_texts [] = refl
+changes_are_texts (Attribute a ∷ elements) = changes_are_texts elements
+changes_are_texts (element ∷ elements) = changes_are_texts elements
+
+module _ {V : Type 0} (rules : HostRules V) where
+  pub text_prompts : (stations : List (Station V)) → All HasTextPrompt (map (sized_scene rules) stations)
+  text_prompts [] = All-nil HasTextPrompt
+  text_prompts (s ∷ stations) =
+      All-cons HasTextPrompt (sized_scene rules s) (map (sized_scene rules) stations) (changes_are_texts (rules.prompt s.value s.state.prompt)) (text_prompts stations)
+
+  first_painted : (xs ys : List (Station V)) → ArePainted rules (xs ++ ys) → ArePainted rules xs
+  first_painted [] ys h = tt
+  first_painted (x ∷ xs) ys h = (h.0, first_painted xs ys h.1)
+
+-- ---- the laws
 
 module _ {A C : Type 0} (pen : Pen A C) where
   narrowest-le : (v : ℕ) (widths : List ℕ) → narrowest v widths ≤ v
@@ -71,9 +125,9 @@ module _ {V A C : Type 0} (rules : HostRules V) (pen : Pen A C) where
   some-rows (Some h) r low = omega (arith, low)
 
   -- the closing batch of a run that comes to a station after which nothing is rendered
-  pub closing_of : (f : Frame V) (earlier : List (Station V)) (station : Station V) (later : List (Station V)) → Comes rules f earlier station later → All (RendersNothing rules) later
+  pub run_closing : (f : Frame V) (earlier : List (Station V)) (station : Station V) (later : List (Station V)) → Comes rules f earlier station later → All (RendersNothing rules) later
       → closing_if (run_of rules f).mark ≡ closing (mark_of (painting station.size.cols (sized_scene rules station).scene)) ∷ []
-  closing_of f earlier station later comes none =
+  run_closing f earlier station later comes none =
       closing-is rules comes none ∙ ap (λ l. closing_batch (map shot_of l)) (map-append (sized_scene rules) earlier (station ∷ [])) ∙ closing_is (map (sized_scene rules) earlier) (sized_scene rules station)
 
   -- on a screen whose cursor stands where the painting left it
@@ -92,26 +146,28 @@ module _ {V A C : Type 0} (rules : HostRules V) (pen : Pen A C) where
       let top : ℕ = top_row rows before.row (map (painting_of pen) (measured ++ last ∷ [])) in (
         all_taken rules h.comes none,
         closes f rows cuts w top kept station last (play_stations rules pen rows cuts v a (earlier ++ station ∷ []) before)
-            (closing_of f earlier station later h.comes none) wide (some-rows rows before.row h.in_sight) (last_alike pen (sized_scene rules) earlier station measured last h.alike) fresh.row,
+            (run_closing f earlier station later h.comes none) wide (some-rows rows before.row h.in_sight) (last_alike pen (sized_scene rules) earlier station measured last h.alike) fresh.row,
       )
 
   -- ---- after a clearing
 
   pub drawn_healings : DrawnHealings rules pen
   drawn_healings f rows earlier since station later measured last h =
-      let scenes = map-append (sized_scene rules) since (station ∷ []) in
-      let mark : Option Mark = mark_after None (map shot_of (map (sized_scene rules) earlier)) in
-      let played : List Batch = map (λ sized. sized.batch) (sized_after mark (map (sized_scene rules) since ++ sized_scene rules station ∷ [])) in
-      let all : batches (map shot_of (map (sized_scene rules) earlier ++ (map (sized_scene rules) since ++ sized_scene rules station ∷ [])))
-      ≡ batches (map shot_of (map (sized_scene rules) earlier)) ++ played =
-      ap batches (map-append shot_of (map (sized_scene rules) earlier) (map (sized_scene rules) since ++ sized_scene rules station ∷ []))
-      ∙ batches_after-append None (map shot_of (map (sized_scene rules) earlier)) (map shot_of (map (sized_scene rules) since ++ sized_scene rules station ∷ []))
-      ∙ ap (λ l. batches (map shot_of (map (sized_scene rules) earlier)) ++ l) (sym (sized_are mark (map (sized_scene rules) since ++ sized_scene rules station ∷ []))) in
+      let scenes : List (Station V) → List SizedScene = map (sized_scene rules) in
+      let up_to : List (Station V) = since ++ station ∷ [] in
+      let same = append_assoc earlier since (station ∷ []) in
+      let painted = first_painted rules earlier since (first_painted rules (earlier ++ since) (station ∷ []) (all_painted rules h.comes)) in
+      let first = first_batches rules h.comes in
       record {
-        batches = rw scenes (played_since rules earlier since h.comes played all);
-        beginning = first_since rules earlier since h.comes;
-        fresh = λ cuts v a before. heals_stations pen rows cuts v a (map (sized_scene rules) earlier) (map (sized_scene rules) (since ++ station ∷ [])) measured last before
-            h.in_sight (text_prompts rules earlier) h.cleared h.alike h.low;
+        batches = ap (batches_of rules) (sym same) ∙ played-is rules h.comes
+            ∙ ap (λ l. batches (map shot_of (scenes l))) same
+            ∙ ap (λ l. batches (map shot_of l)) (map-append (sized_scene rules) earlier up_to)
+            ∙ ap batches (map-append shot_of (scenes earlier) (scenes up_to))
+            ∙ batches_after-append None (map shot_of (scenes earlier)) (map shot_of (scenes up_to))
+            ∙ ap (λ l. batches (map shot_of (scenes earlier)) ++ l) (sym (sized_are (mark_after None (map shot_of (scenes earlier))) (scenes up_to)))
+            ∙ ap (λ l. l ++ map (λ sized. sized.batch) (since_batches rules earlier up_to)) (sym (batches_are_shots rules earlier painted));
+        beginning = (first.0, first.1 ∙ ap (λ (stations : List (Station V)). f.terminal.batches ++ (batches_of rules stations ++ first.0)) same);
+        fresh = λ cuts v a before. heals_stations pen rows cuts v a (scenes earlier) (scenes up_to) measured last before h.in_sight (text_prompts rules earlier) h.cleared h.alike h.low;
       }
 
   pub healed_closings : HealedClosings rules pen
@@ -119,7 +175,7 @@ module _ {V A C : Type 0} (rules : HostRules V) (pen : Pen A C) where
       let fresh = (drawn_healings f rows earlier since station later measured last h).fresh in
       let bottom : ℕ = sheet_last_row last.cols (painting_of pen last).sheet in
       let from_0 : 0 + bottom ≡ bottom = omega arith in (
-        all_taken rules h.comes none ∙ ap (λ (stations : List (Station V)). f.terminal.batches ++ batches_of rules stations) (up_to-is rules earlier since station),
+        all_taken rules h.comes none ∙ ap (λ (stations : List (Station V)). f.terminal.batches ++ batches_of rules stations) (append_assoc earlier since (station ∷ [])),
         λ cuts v w a kept before wide. rw from_0 at (closes f rows cuts w 0 kept station last (play_since rules pen rows cuts v a earlier (since ++ station ∷ []) before)
-            (closing_of f (earlier ++ since) station later h.comes none) wide h.in_sight (last_alike pen (sized_scene rules) since station measured last h.alike) (fresh cuts v a before).row),
+            (run_closing f (earlier ++ since) station later h.comes none) wide h.in_sight (last_alike pen (sized_scene rules) since station measured last h.alike) (fresh cuts v a before).row),
       )

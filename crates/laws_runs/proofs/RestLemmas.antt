@@ -1,8 +1,8 @@
--- A terminal that is sent paintings stays at rest under the attributes that are known, whatever size it has and
--- whatever it shows.
-use Rattle.std.proofs.Common.{◌≡◌, ◌<◌, ◌+◌, ◌-◌, ◌^◌, ◌&&◌, ◌||◌, not, length, inl, inr, ℕ, zero, suc, pos, negsuc, true, false, Bool, cond, eqb, ltb, leb, min, replicate, codes, List, [], ◌∷◌, ◌++◌, ap, subst, sym, refl, arith}
+-- A terminal that is sent stations stays at rest under the attributes that are known, whatever becomes of its size
+-- between them.
+use Rattle.std.proofs.Common.{◌≡◌, ◌<◌, ◌+◌, ◌-◌, ◌^◌, ◌&&◌, ◌||◌, not, length, inl, inr, ℕ, zero, suc, pos, negsuc, true, false, Bool, cond, eqb, ltb, leb, min, replicate, codes, List, [], ◌∷◌, ◌++◌, ap, subst, sym, refl, arith, Option, Some, None, map, ◌∙◌}
 use Rattle.std.specs.Fmt.{decimal}
-use Rattle.std.specs.List.{list_all, list_any}
+use Rattle.std.specs.List.{list_all, list_any, AllByRecursion}
 use Rattle.std.specs.Char.{is_control}
 use Rattle.std.specs.Cmp.Lexicographic.{pointwise}
 use Rattle.std.specs.Prelude.{chars}
@@ -12,15 +12,14 @@ use Rattle.tw_surface.specs.declared.cell.CellAttributes.{CellAttributes}
 use Rattle.tw_surface.specs.declared.change.Position.{Position}
 use Rattle.tw_surface.specs.declared.change.Position.TheVariants.{Absolute, Relative}
 use Rattle.tw_surface.specs.declared.color.ColorAttribute.{ColorAttribute}
-use Rattle.tw_surface.specs.ChangeView.{ChangeView}
-use Rattle.tw_surface.specs.ChangeView.{Attribute, AllAttributes, Text, ClearScreen, ClearToEndOfScreen, CursorPosition}
+use Rattle.tw_surface.specs.ChangeView.{ChangeView, Attribute, AllAttributes, Text, ClearScreen, ClearToEndOfScreen, CursorPosition, Batch}
 use Rattle.tw_surface.specs.Attributes.{with_attribute}
 use Rattle.tw_surface.specs.Characters.{is_plain, is_printable}
 use Rattle.tw_surface.specs.Width.{cluster_width}
 use Rattle.laws_screens.specs.Pens.{Pen, cluster_cells}
 use Rattle.laws_screens.specs.Screens.{blank_of}
 use Rattle.tw_ansi.specs.declared.encode.Encoder.{Encoder}
-use Rattle.tw_ansi.specs.Encoding.{Sent, sent_return, sent_feed, sent_return_feed, sent_beginning, sent_columns, sent_byte, sent_cluster, sent_plain, sent_clusters, sent_text, sent_change, sent_clear, shown_as, column_of}
+use Rattle.tw_ansi.specs.Encoding.{Sent, sent_return, sent_feed, sent_return_feed, sent_beginning, sent_columns, sent_byte, sent_cluster, sent_plain, sent_clusters, sent_text, sent_change, sent_clear, shown_as, column_of, sent_batch}
 use Rattle.tw_ansi.specs.Sequences.{sequence, to_column, to_row, clear_below, clear_rows, clear_with, up_a_row, set_attributes, set_attribute}
 use Rattle.tw_ansi.specs.EcmaLaws.{at_rest, IsColor, IsAttribute}
 use Rattle.tw_ansi.specs.EcmaScreen.{EcmaScreen, act_by, columns_of, feed_line, is_whole_character, receive_all, receive_by, return_to_start, write, write_here, write_character}
@@ -30,8 +29,20 @@ use Rattle.tw_ansi.proofs.EcmaClearings.{clears_below, clears_rows}
 use Rattle.tw_ansi.proofs.EcmaRenditions.{attribute_is_selected, attributes_are_selected}
 use Rattle.tw_ansi.proofs.EcmaSequences.{received, numbered}
 use Rattle.tw_ansi.proofs.EcmaWrites.{begins, text_write}
-use Rattle.tw_ansi.proofs.KnownTerminals.{keeps_text, byte_in, cluster_in}
-use Rattle.laws_runs.specs.Rests.{Rests}
+use Rattle.tw_ansi.proofs.KnownTerminals.{keeps_text, byte_in, cluster_in, batch_in, clear_keeps}
+use Rattle.laws_runs.specs.Rests.{Rests, Receives, IsTypedStation, RestIsKept, ResizedHeals}
+use Rattle.tw_surface.specs.Defaults.{default_attributes, default_color}
+use Rattle.tw_surface.specs.Paintings.{Mark, Painting, painting, mark_of, shown_part, cursor_place, start_move}
+use Rattle.tw_surface.specs.PaintingBatches.{SizedScene, clear_batch, clearing, start_of}
+use Rattle.tw_surface.specs.Places.{place_after_all, origin, move_between}
+use Rattle.tw_surface.specs.Scenes.{Scene}
+use Rattle.laws_screens.specs.SizedBatches.{SizedBatch, sized_at, sized_after}
+use Rattle.tw_host.specs.HostRules.{HostRules}
+use Rattle.tw_lineedit.specs.ScreenRuns.{sized_scene}
+use Rattle.tw_ansi.specs.EcmaPaintings.{IsTypedChange, IsTypedScene}
+use Rattle.tw_ansi.proofs.EcmaPaintings.{shown, shown_typed}
+use Rattle.laws_runs.specs.SentReadings.{sent_at, sent_sized}
+use Rattle.laws_runs.proofs.SentRunLemmas.{begun_color, cleared_by}
 
 -- a change that leaves a terminal at rest whatever is known of it: its texts are sent at n columns
 abbrev pub IsRestful : ℕ → ChangeView → Type 0
@@ -46,6 +57,11 @@ IsRestful n (CursorPosition x y) = Unit {0}
 abbrev read_of : List ℕ → terminal.Reading
 read_of [] = terminal.Text
 read_of (lead ∷ begun) = terminal.Begun (lead ∷ begun)
+
+-- what holds of both holds of either
+either : {X : Type 0} (P : X → Type 0) (z : Bool) (x y : X) → P x → P y → P (cond z x y)
+either P true x y p q = p
+either P false x y p q = q
 
 module _ {A C : Type 0} (pen : Pen A C) where
   module _ (h w : ℕ) where
@@ -63,18 +79,6 @@ module _ {A C : Type 0} (pen : Pen A C) where
         let is : t ≡ at_rest t = ap (λ r. record t { reading = r }) reading in
         subst (λ u. Rests b (receive_all pen h w bytes u)) (sym is) (subst (Rests b) (sym (does t rendition)) (rests t rendition))
 
-    either-rests : (z : Bool) (a : CellAttributes) (t u : EcmaScreen C) → Rests a t → Rests a u → Rests a (cond z t u)
-    either-rests true a t u p q = p
-    either-rests false a t u p q = q
-
-    either-leads : (z : Bool) (a b : CellAttributes) (xs ys : List ℕ) → KeepsRest xs a b → KeepsRest ys a b → KeepsRest (cond z xs ys) a b
-    either-leads true a b xs ys p q = p
-    either-leads false a b xs ys p q = q
-
-    either-sent : (z : Bool) (a b : CellAttributes) (x y : Sent) → KeepsRest x.bytes a b → KeepsRest y.bytes a b → KeepsRest (cond z x y).bytes a b
-    either-sent true a b x y p q = p
-    either-sent false a b x y p q = q
-
     pub nothing-leads : (a : CellAttributes) → KeepsRest [] a a
     nothing-leads a t rests = rests
 
@@ -84,7 +88,7 @@ module _ {A C : Type 0} (pen : Pen A C) where
     return-leads a = leads-by (13 ∷ []) a a (λ t. return_to_start (at_rest t)) (λ t r. refl) (λ t r. (refl, r))
 
     fed-rests : (a : CellAttributes) (t : EcmaScreen C) → Rests a t → Rests a (feed_line (blank_of pen) h t)
-    fed-rests a t rests = either-rests (eqb (t.row + 1) h) a _ _ rests rests
+    fed-rests a t rests = either (Rests a) (eqb (t.row + 1) h) _ _ rests rests
 
     feed-leads : (a : CellAttributes) → KeepsRest (10 ∷ []) a a
     feed-leads a = leads-by (10 ∷ []) a a (λ t. feed_line (blank_of pen) h (at_rest t)) (λ t r. refl) (λ t r. fed-rests a (at_rest t) (refl, r))
@@ -96,7 +100,7 @@ module _ {A C : Type 0} (pen : Pen A C) where
     column-leads : (col : ℕ) (a : CellAttributes) → col < 2 ^ 64 → KeepsRest (to_column col) a a
     column-leads col a small =
         leads-then (13 ∷ []) (cond (eqb col 0) [] (sequence (decimal col) (codes "C"))) a a a (return-leads a)
-        (either-leads (eqb col 0) a a [] (sequence (decimal col) (codes "C")) (nothing-leads a)
+        (either (λ bytes. KeepsRest bytes a a) (eqb col 0) [] (sequence (decimal col) (codes "C")) (nothing-leads a)
         (leads-by (sequence (decimal col) (codes "C")) a a (λ t. record (act_by pen h w col 67 (record t { reading = terminal.Parameters (decimal col) })) { reading = terminal.Text })
         (λ t r. numbered pen h w col 67 t small refl refl) (λ t r. (refl, r))))
 
@@ -114,11 +118,11 @@ module _ {A C : Type 0} (pen : Pen A C) where
     -- ---- texts
 
     written-rests : (a : CellAttributes) (cells : List C) (t : EcmaScreen C) → Rests a t → Rests a (write_here w cells t)
-    written-rests a cells t rests = either-rests (eqb (t.col + length cells) w) a _ _ rests rests
+    written-rests a cells t rests = either (Rests a) (eqb (t.col + length cells) w) _ _ rests rests
 
     write-rests : (a : CellAttributes) (cells : List C) (t : EcmaScreen C) → Rests a t → Rests a (write (blank_of pen) h w cells t)
     write-rests a cells t rests =
-        either-rests (t.waits || ltb w (t.col + length cells)) a _ _ (written-rests a cells (return_to_start (feed_line (blank_of pen) h t)) (fed-rests a t rests)) (written-rests a cells t rests)
+        either (Rests a) (t.waits || ltb w (t.col + length cells)) _ _ (written-rests a cells (return_to_start (feed_line (blank_of pen) h t)) (fed-rests a t rests)) (written-rests a cells t rests)
 
     printable-leads : (b : ℕ) (a : CellAttributes) → is_printable b ≡ true → KeepsRest (b ∷ []) a a
     printable-leads b a printable =
@@ -126,7 +130,7 @@ module _ {A C : Type 0} (pen : Pen A C) where
         (λ t r. write-rests a (cluster_cells pen (pen.attributes t.rendition) (b ∷ []) 1) (at_rest t) (refl, r))
 
     character-rests : (bytes : List ℕ) (a : CellAttributes) (t : EcmaScreen C) → Rests a t → Rests a (write_character pen h w bytes t)
-    character-rests bytes a t rests = either-rests (eqb (columns_of bytes) 0) a _ _ rests (write-rests a (cluster_cells pen (pen.attributes t.rendition) bytes (columns_of bytes)) t rests)
+    character-rests bytes a t rests = either (Rests a) (eqb (columns_of bytes) 0) _ _ rests (write-rests a (cluster_cells pen (pen.attributes t.rendition) bytes (columns_of bytes)) t rests)
 
     -- bytes of marks, after some bytes of the first one
     marks-lead : (bytes begun : List ℕ) (a : CellAttributes) → are_marks begun bytes ≡ true → (t : EcmaScreen C) → t.reading ≡ read_of begun → t.rendition ≡ a → Rests a (receive_all pen h w bytes t)
@@ -189,13 +193,13 @@ module _ {A C : Type 0} (pen : Pen A C) where
 
     sent-feed-leads : (e : Encoder) (a : CellAttributes) → e.cols < 2 ^ 64 → KeepsRest (sent_feed e).bytes a a
     sent-feed-leads e a small =
-        either-sent (leb e.cols e.x && not e.parted) a a _ _ (leads-then (10 ∷ []) (to_column (e.cols - 1)) a a a (feed-leads a) (column-leads (e.cols - 1) a (omega (arith, small)))) (feed-leads a)
+        either (λ (s : Sent). KeepsRest s.bytes a a) (leb e.cols e.x && not e.parted) _ _ (leads-then (10 ∷ []) (to_column (e.cols - 1)) a a a (feed-leads a) (column-leads (e.cols - 1) a (omega (arith, small)))) (feed-leads a)
 
     columns-lead : (e : Encoder) (width : ℕ) (bytes : List ℕ) (a : CellAttributes) → KeepsRest bytes a a → KeepsRest (sent_columns e width bytes).bytes a a
     columns-lead e width bytes a leads =
         leads-then (sent_beginning e width).bytes bytes a a a
-        (either-sent (eqb width 0) a a _ _ (nothing-leads a)
-        (either-sent (leb (e.x + width) e.cols) a a _ _ (nothing-leads a) (either-leads e.parted a a (13 ∷ 10 ∷ []) [] (below-leads a) (nothing-leads a)))) leads
+        (either (λ (s : Sent). KeepsRest s.bytes a a) (eqb width 0) _ _ (nothing-leads a)
+        (either (λ (s : Sent). KeepsRest s.bytes a a) (leb (e.x + width) e.cols) _ _ (nothing-leads a) (either (λ bytes. KeepsRest bytes a a) e.parted (13 ∷ 10 ∷ []) [] (below-leads a) (nothing-leads a)))) leads
 
     plain-byte-leads : (e : Encoder) (b : ℕ) (a : CellAttributes) → is_plain b ≡ true → e.cols < 2 ^ 64 → KeepsRest (sent_byte e b).bytes a a
     plain-byte-leads e b a plain small = go (eqb b 13) (eqb b 10) plain
@@ -223,7 +227,7 @@ module _ {A C : Type 0} (pen : Pen A C) where
         go false false false k =
             let lone = and_parts (is_character (cluster_width cluster) cluster) _ k in
             columns-lead e (cluster_width cluster) (shown_as cluster) a
-            (either-leads (list_any is_control (chars cluster)) a a (63 ∷ []) cluster (printable-leads 63 a refl) (character-leads (cluster_width cluster) cluster a lone.0))
+            (either (λ bytes. KeepsRest bytes a a) (list_any is_control (chars cluster)) (63 ∷ []) cluster (printable-leads 63 a refl) (character-leads (cluster_width cluster) cluster a lone.0))
 
     clusters-lead : (n : ℕ) (clusters : List (List ℕ)) (e : Encoder) (a : CellAttributes) → list_all (is_sent_cluster n) clusters ≡ true → e.cols < 2 ^ 64 → KeepsRest (sent_clusters clusters e).bytes a a
     clusters-lead n [] e a fits small = nothing-leads a
@@ -264,12 +268,12 @@ module _ {A C : Type 0} (pen : Pen A C) where
     clear-leads color e p q small =
         let a : CellAttributes = e.attributes in
         let clear : List ℕ = clear_with clear_below color a.background in
-        either-sent (leb e.cols e.x) a a _ _
+        either (λ (s : Sent). KeepsRest s.bytes a a) (leb e.cols e.x) _ _
         (leads-then ((13 ∷ 10 ∷ clear) ++ up_a_row) (to_column (e.cols - 1)) a a a
         (leads-then (13 ∷ 10 ∷ clear) up_a_row a a a
         (leads-then (13 ∷ []) (10 ∷ clear) a a a (return-leads a) (leads-then (10 ∷ []) clear a a a (feed-leads a) (cleared-below-leads color a p q))) (up-leads a))
         (column-leads (e.cols - 1) a (omega (arith, small))))
-        (either-sent (eqb e.x 0) a a _ _ (rows-lead color a p q) (cleared-below-leads color a p q))
+        (either (λ (s : Sent). KeepsRest s.bytes a a) (eqb e.x 0) _ _ (rows-lead color a p q) (cleared-below-leads color a p q))
 
     -- ---- changes
 
@@ -284,3 +288,111 @@ module _ {A C : Type 0} (pen : Pen A C) where
     change-leads n (ClearToEndOfScreen color) e p small = absurd p
     change-leads n (CursorPosition x y) e p small =
         leads-then (to_row y) (to_column (column_of x e)) e.attributes e.attributes e.attributes (row-leads y e.attributes) (column-leads (column_of x e) e.attributes (omega (arith, small)))
+
+-- ---- batches and paintings
+
+both-restful : (n : ℕ) (xs ys : Batch) → AllByRecursion (IsRestful n) xs → AllByRecursion (IsRestful n) ys → AllByRecursion (IsRestful n) (xs ++ ys)
+both-restful n [] ys a b = b
+both-restful n (x ∷ xs) ys a b = (a.0, both-restful n xs ys a.1 b)
+
+typed-restful : (n : ℕ) (xs : Batch) → AllByRecursion (IsTypedChange n) xs → AllByRecursion (IsRestful n) xs
+typed-restful n [] a = tt
+typed-restful n (Text text ∷ xs) a = (a.0, typed-restful n xs a.1)
+typed-restful n (Attribute change ∷ xs) a = (a.0, typed-restful n xs a.1)
+typed-restful n (AllAttributes to ∷ xs) a = (a.0, typed-restful n xs a.1)
+typed-restful n (change ∷ xs) a = absurd a.0
+
+module _ {A C : Type 0} (pen : Pen A C) where
+  batch-leads : (h w n : ℕ) (batch : Batch) (e : Encoder) → AllByRecursion (IsRestful n) batch → e.cols < 2 ^ 64
+      → KeepsRest pen h w (sent_batch batch e).bytes e.attributes (sent_batch batch e).next.attributes
+  batch-leads h w n [] e a small = nothing-leads pen h w e.attributes
+  batch-leads h w n (x ∷ xs) e a small =
+      let next : Encoder = (sent_change x e).next in
+      leads-then pen h w (sent_change x e).bytes (sent_batch xs next).bytes e.attributes next.attributes (sent_batch xs next).next.attributes
+      (change-leads pen h w n x e a.0 small) (batch-leads h w n xs next a.1 (rw (batch_in (x ∷ []) e) small))
+
+  painting-leads : (h w n : ℕ) (scene : Scene) (e : Encoder) → IsTypedScene n scene → IsColor e.attributes.background → e.cols < 2 ^ 64
+      → KeepsRest pen h w (sent_batch (painting n scene).changes e).bytes e.attributes (sent_batch (painting n scene).changes e).next.attributes
+  painting-leads h w n scene e t color small =
+      let move : ChangeView = move_between (place_after_all n (shown_part n scene) origin) (cursor_place n scene) in
+      let rest : Batch = AllAttributes default_attributes ∷ (shown n scene ++ move ∷ []) in
+      let next : Encoder = (sent_change (ClearToEndOfScreen default_color) e).next in
+      let restful : AllByRecursion (IsRestful n) rest = ((tt, tt), both-restful n (shown n scene) (move ∷ []) (typed-restful n (shown n scene) (shown_typed n scene t)) (tt, tt)) in
+      leads-then pen h w (sent_change (ClearToEndOfScreen default_color) e).bytes (sent_batch rest next).bytes e.attributes e.attributes (sent_batch rest next).next.attributes
+      (clear-leads pen h w default_color e tt color small)
+      (subst (λ a. KeepsRest pen h w (sent_batch rest next).bytes a (sent_batch rest next).next.attributes) (clear_keeps default_color e)
+      (batch-leads h w n rest next restful (rw (batch_in (ClearToEndOfScreen default_color ∷ []) e) small)))
+
+  started-leads : (h w n : ℕ) (mark : Option Mark) (scene : Scene) (e : Encoder) → IsTypedScene n scene → IsColor e.attributes.background → e.cols < 2 ^ 64
+      → let begun = start_of mark ++ (painting n scene).changes in
+      KeepsRest pen h w (sent_batch begun e).bytes e.attributes (sent_batch begun e).next.attributes
+  started-leads h w n None scene e t color small = painting-leads h w n scene e t color small
+  started-leads h w n (Some m) scene e t color small =
+      let next : Encoder = (sent_change (start_move m) e).next in
+      leads-then pen h w (sent_change (start_move m) e).bytes (sent_batch (painting n scene).changes next).bytes e.attributes e.attributes (sent_batch (painting n scene).changes next).next.attributes
+      (change-leads pen h w n (start_move m) e tt small) (painting-leads h w n scene next t color small)
+
+  cleared-leads : (h w : ℕ) (e : Encoder) → IsColor e.attributes.background → KeepsRest pen h w (sent_batch clear_batch e).bytes e.attributes e.attributes
+  cleared-leads h w e q t (reading, rendition) = subst (Rests e.attributes) (sym (cleared_by pen h w e t q reading rendition)) (refl, rendition)
+
+  -- ---- batches, each at some size
+
+  -- at every size each leads from the attributes that are known to those that are known then
+  abbrev AllKeepRest : List SizedBatch → Encoder → Type 0
+  AllKeepRest [] e = Unit {0}
+  AllKeepRest (sized ∷ more) e =
+      ((h w : ℕ) → KeepsRest pen h w (sent_at sized e).bytes e.attributes (sent_at sized e).next.attributes) × AllKeepRest more (sent_at sized e).next
+
+  reshaped : (a : CellAttributes) (t u : EcmaScreen C) → Rests a t → (u.reading ≡ t.reading) × (u.rendition ≡ t.rendition) → Rests a u
+  reshaped a t u rests same = (same.0 ∙ rests.0, same.1 ∙ rests.1)
+
+  rests-behind : (played : List SizedBatch) (e : Encoder) (t u : EcmaScreen C) → AllKeepRest played e → Rests e.attributes t → Receives pen played e t u
+      → Rests (sent_sized played e).next.attributes u
+  rests-behind [] e t u lead rests same = reshaped e.attributes t u rests same
+  rests-behind (sized ∷ more) e t u lead rests (h, w, s, same, later) =
+      rests-behind more (sent_at sized e).next (receive_all pen h w (sent_at sized e).bytes s) u lead.1
+      (lead.0 h w s (reshaped e.attributes t s rests same)) later
+
+  -- the batches of stations do, and the colour that is known is by bytes
+  stations-lead : (mark : Option Mark) (xs : List SizedScene) (e : Encoder) → AllByRecursion IsTypedStation xs → IsColor e.attributes.background
+      → AllKeepRest (sized_after mark xs) e × IsColor (sent_sized (sized_after mark xs) e).next.attributes.background
+  stations-lead mark [] e a color = (tt, color)
+  stations-lead mark (x ∷ xs) e a color = by_cleared (λ known. stations-lead (Some (mark_of (painting x.cols x.scene))) xs known a.1) x.scene.cleared
+    where
+      shot : Painting
+      shot = painting x.cols x.scene
+
+      rest : List SizedBatch
+      rest = sized_after (Some (mark_of shot)) xs
+
+      by_cleared : ((known : Encoder) → IsColor known.attributes.background → AllKeepRest rest known × IsColor (sent_sized rest known).next.attributes.background)
+          → (b : Bool) → let played = sized_at x.cols (clearing b ++ (start_of mark ++ shot.changes) ∷ []) ++ rest in
+          AllKeepRest played e × IsColor (sent_sized played e).next.attributes.background
+      by_cleared more false =
+          let known : Encoder = record e { cols = x.cols } in
+          let later = more (sent_batch (start_of mark ++ shot.changes) known).next (begun_color mark x.cols x.scene known a.0.typed) in
+          (((λ h w. started-leads h w x.cols mark x.scene known a.0.typed color a.0.narrow), later.0), later.1)
+      by_cleared more true =
+          let first : Encoder = record e { cols = x.cols } in
+          let known : Encoder = record (sent_batch clear_batch first).next { cols = x.cols } in
+          let later = more (sent_batch (start_of mark ++ shot.changes) known).next (begun_color mark x.cols x.scene known a.0.typed) in
+          (((λ h w. cleared-leads h w first color), ((λ h w. started-leads h w x.cols mark x.scene known a.0.typed color a.0.narrow), later.0)), later.1)
+
+  pub rest_is_kept : {V : Type 0} (rules : HostRules V) → RestIsKept rules pen
+  rest_is_kept rules stations e t u a color rests received =
+      let lead = stations-lead None (map (sized_scene rules) stations) e a color in
+      (rests-behind (sized_after None (map (sized_scene rules) stations)) e t u lead.0 rests received, lead.1)
+
+  pub resized_heals : {V : Type 0} (rules : HostRules V) → ResizedHeals rules pen
+  resized_heals rules h w f earlier since station later measured last e first t k =
+      let kept = rest_is_kept rules earlier e first t k.typed k.color k.rests k.received in
+      record {
+        comes = k.comes;
+        sent = k.sent;
+        back = k.back;
+        narrow = k.narrow;
+        color = kept.1;
+        reading = kept.0.0;
+        rendition = kept.0.1;
+        cols = refl;
+      }

@@ -1,259 +1,205 @@
--- Worked runs from bytes to cells: the premises hold, the bytes are these to the last one, and this is what is shown; a
--- conclusion that is a little off does not hold.
-use Rattle.std.proofs.Common.{◌≡◌, ℕ, ◌+◌, List, [], ◌∷◌, ◌++◌, length, false, refl, ap, None, Some, map, min, codes, ◌∙◌, arith}
-use Rattle.std.specs.List.{AllByRecursion}
-use Rattle.std.proofs.lemmas.List.Elements.{All-nil}
-use Rattle.std.specs.Fmt.{digits}
-use Rattle.unicode_segmentation.proofs.Computing.{unicode_segmentation}
-use Rattle.unicode_width.proofs.Computing.{unicode_width}
+-- A worked reading whose events tell no other size: the line is pasted and cancelled. What screens and terminals show
+-- of it, and the bytes that it has written; a conclusion that is a little off does not hold.
+use Rattle.std.proofs.Common.{◌≡◌, ℕ, ◌+◌, List, [], ◌∷◌, true, false, refl, sym, ap, min, codes, Some, None, ◌∙◌, arith}
+use Rattle.std.specs.Prelude.{unwrap_or}
+use Rattle.std.proofs.lemmas.Bool.{false≢true}
+use Rattle.std.proofs.lemmas.List.Elements.{All-nil, All-from_recursion}
+use Rattle.laws_screens.specs.Glyphs.{IsMeasuredWide}
+use Rattle.laws_screens.specs.Screens.{HasRoom}
 use Rattle.laws_screens.specs.Strokes.{PictureOf}
-use Rattle.tw_surface.specs.Defaults.{default_attributes}
-use Rattle.tw_surface.specs.Places.{pieces}
-use Rattle.tw_surface.specs.Scenes.{IsPlain}
-use Rattle.laws_screens.specs.Glyphs.{glyphs}
-use Rattle.tw_surface.specs.Width.{column_width}
 use Rattle.laws_screens.specs.StyledCells.{characters, cluster_number}
-use Rattle.laws_screens.proofs.PaintedAlikeLemmas.{measured_is_itself}
-use Rattle.tw_input.specs.EventView.{EventView, Paste}
-use Rattle.tw_line.specs.Boundaries.{boundary_below, is_boundary}
-use Rattle.tw_line.specs.Extremes.{iterate, greatest_below, least_from}
-use Rattle.tw_line.specs.Movements.{destination}
-use Rattle.tw_session.specs.Painting.{painted_on}
-use Rattle.tw_session.specs.Search.{searched_again, search_step}
-use Rattle.tw_session.specs.SessionView.{new_state}
-use Rattle.tw_session.specs.Steps.{apply}
-use Rattle.tw_lineedit.specs.Frame.{Frame}
-use Rattle.tw_lineedit.specs.Reading.{start}
-use Rattle.tw_lineedit.specs.ScreenRuns.{sized_scene, RendersNothing}
-use Rattle.tw_lineedit.specs.Stations.{Station, station_painting, stations_of}
-use Rattle.laws_runs.specs.DrawnRuns.{ComesMeasured}
-use Rattle.tw_ansi.specs.Encoding.{Sent, first_known}
+use Rattle.laws_screens.proofs.PaintedAlikeLemmas.{are_themselves}
+use Rattle.tw_surface.specs.Defaults.{default_attributes}
+use Rattle.tw_surface.specs.PaintingBatches.{SizedScene}
+use Rattle.tw_input.specs.EventView.{EventView, Key, Paste}
+use Rattle.tw_input.specs.declared.key.KeyCode.TheVariants.{Char}
+use Rattle.tw_terminal.specs.Uses.{Took, Other}
+use Rattle.tw_host.specs.KeyTable.{key_press}
+use Rattle.tw_lineedit.specs.EditState.{Inactive}
+use Rattle.tw_lineedit.specs.ScreenRuns.{batches_of, RendersNothing}
+use Rattle.tw_lineedit.specs.Stations.{Station}
+use Rattle.tw_ansi.specs.Encoding.{first_known}
 use Rattle.tw_ansi.specs.EcmaBatches.{first_picture}
 use Rattle.tw_ansi.specs.EcmaScreen.{EcmaScreen, receive_all}
 use Rattle.tw_ansi.specs.EcmaScreen as terminal
-use Rattle.tw_ansi.specs.EcmaTexts.{is_sent}
 use Rattle.tw_ansi.proofs.EcmaBatches.{first_is_shown}
-use Rattle.tw_ansi.proofs.EcmaPaintings.{plain_sent}
+use Rattle.tw_ansi.proofs.JoinedMarks.{characters_join}
+use Rattle.tw_device.specs.Deeds.{Called}
+use Rattle.tw_device.specs.Steps as step
+use Rattle.tw_device.specs.declared.reading.Answer.TheVariants.{Cancelled}
+use Rattle.tw_device.specs.declared.terminal.AnsiTerminal.{AnsiTerminal}
+use Rattle.laws_runs.specs.DrawnRuns.{ComesMeasured, play_stations, closed_by}
+use Rattle.laws_runs.specs.SentReadings.{IsSentReading}
 use Rattle.laws_runs.specs.SentRuns.{ComesSent, IsSentAt, sent_paintings, sent_run}
-use Rattle.laws_runs.proofs.ClosingLemmas.{closings_are_shown}
-use Rattle.laws_runs.proofs.SentLemmas.{paintings_are_shown}
-use Rattle.laws_runs.proofs.WorkedParts.{Lines, rules, nth, painting_in, plain_alike, all_low, carries, joins, prompted, to_right, closing_bytes}
+use Rattle.laws_runs.proofs.SentRunLemmas.{closings_are_shown, paintings_are_shown}
+use Rattle.laws_runs.proofs.DrawnRunLemmas.{drawn_paintings, drawn_closings}
+use Rattle.laws_runs.proofs.ReadingLemmas.{readings_are_sent}
+use Rattle.laws_runs.proofs.WorkedParts.{worked_runs, prompt, accented, han, crab, text, csi, prompted, to_right, closing_bytes, Wrote, with_batch, flushed_now, takes, flushes, Lines, rules, old, frame, whole, batch_at, station_at, scene_at}
 
-abbrev frame_with : ℕ → List EventView → Frame Lines
-frame_with cols events = start None (record { state = new_state; value = []; mark = None; terminal = record { size = record { rows = 4; cols = cols }; events = events; batches = []; flushed = 0; failures = 0 } })
+abbrev events : List EventView
+events = Paste text ∷ Key (key_press 8 (Char 67)) ∷ []
 
--- four rows of A, of B, of C and of D, the cursor at the start of a row
-abbrev full : ℕ → EcmaScreen ℕ
-full row = record { cell = λ r c. 65 + r; row = row; col = 0; waits = false; last = 0; rendition = default_attributes; reading = terminal.Text }
+-- four rows of A, of B, of C and of D, the cursor at the start of the last
+abbrev full : EcmaScreen ℕ
+full = record { cell = λ r c. 65 + r; row = 3; col = 0; waits = false; last = 0; rendition = default_attributes; reading = terminal.Text }
 
-abbrev before : ℕ → PictureOf ℕ
-before row = first_picture characters 4 (full row)
+abbrev before : PictureOf ℕ
+before = first_picture characters 4 full
 
--- ---- five columns and four rows, entered in the last row: "abcdef" is pasted, and no event is left
+module _ (it : AnsiTerminal Wrote) where
+  abbrev at : ℕ → Station Lines
+  at n = station_at it events n
 
-abbrev low_run : Frame Lines
-low_run = frame_with 5 (Paste (97 ∷ 98 ∷ 99 ∷ 100 ∷ 101 ∷ 102 ∷ []) ∷ [])
+  abbrev scene : ℕ → SizedScene
+  scene n = scene_at it events n
 
-abbrev low_first : Station Lines
-low_first = nth (stations_of rules low_run) 0
+  comes : ComesMeasured rules characters (Some 4) (frame it events) (at 0 ∷ at 1 ∷ []) (at 2) [] (scene 0 ∷ scene 1 ∷ []) (scene 2) before
+  unfolding worked_runs
+  comes = record {
+    comes = record { nothing_painted = refl; stations = refl; painting = _; painted = refl };
+    alike = are_themselves characters (scene 0 ∷ scene 1 ∷ scene 2 ∷ []) (All-from_recursion IsMeasuredWide (scene 0 ∷ scene 1 ∷ scene 2 ∷ []) (
+      (omega arith, record { prompt = refl; line = refl; lower = tt }),
+      ((omega arith, record { prompt = refl; line = refl; lower = tt }), ((omega arith, record { prompt = refl; line = refl; lower = tt }), tt)),
+    ));
+    low = All-from_recursion (HasRoom (Some 4) characters) (scene 0 ∷ scene 1 ∷ scene 2 ∷ []) (omega arith, (omega arith, (omega arith, tt)));
+    at_start = refl;
+    in_sight = omega arith;
+  }
 
-abbrev low_last : Station Lines
-low_last = nth (stations_of rules low_run) 1
+  -- ---- on a screen that cuts its rows, and has seven columns when it is closed
 
-low_plain : IsPlain (sized_scene rules low_first).scene × IsPlain (sized_scene rules low_last).scene
-unfolding glyphs pieces column_width painted_on apply destination searched_again search_step boundary_below is_boundary iterate greatest_below least_from
-low_plain = (record { prompt = refl; line = refl; lower = tt }, record { prompt = refl; line = refl; lower = tt })
+  abbrev drawn : PictureOf ℕ
+  drawn = play_stations rules characters (Some 4) true 5 tt (at 0 ∷ at 1 ∷ at 2 ∷ []) before
 
-low_comes : ComesMeasured rules characters (Some 4) low_run (low_first ∷ []) low_last [] (sized_scene rules low_first ∷ []) (sized_scene rules low_last) (before 3)
-unfolding glyphs pieces column_width painted_on apply destination searched_again search_step boundary_below is_boundary iterate greatest_below least_from
-low_comes = record {
-  comes = record { nothing_painted = refl; stations = refl; painting = painting_in (station_painting rules low_last); painted = refl };
-  alike = plain_alike (sized_scene rules low_first ∷ sized_scene rules low_last ∷ []) ((omega arith, low_plain.0), ((omega arith, low_plain.1), tt));
-  low = all_low (Some 4) (sized_scene rules low_first ∷ sized_scene rules low_last ∷ []) (omega arith, (omega arith, tt));
-  at_start = refl;
-  in_sight = omega arith;
-}
+  abbrev closed : PictureOf ℕ
+  closed = closed_by rules characters (Some 4) true 5 7 tt (frame it events) drawn
 
-low_sendable : AllByRecursion (IsSentAt 4 5) (map (sized_scene rules) (low_first ∷ low_last ∷ []))
-unfolding glyphs pieces column_width painted_on apply destination searched_again search_step boundary_below is_boundary iterate greatest_below least_from
-low_sendable = (
-  record { cols = refl; showable = record { typed = record { prompt = (plain_sent 5 _ refl, tt); line = (plain_sent 5 _ refl, tt); lower = tt }; near = omega arith; back = omega arith; under = omega arith } },
-  (record { cols = refl; showable = record { typed = record { prompt = (plain_sent 5 _ refl, tt); line = (plain_sent 5 _ refl, tt); lower = tt }; near = omega arith; back = omega arith; under = omega arith } }, tt),
-)
+  drawn_by_law : (drawn.row ≡ 3) × (drawn.col ≡ 3) × (drawn.cell 2 4 ≡ 32) × (drawn.cell 3 0 ≡ cluster_number han) × (drawn.cell 1 0 ≡ 67) × (closed.row ≡ 3) × (closed.col ≡ 0) × (closed.cell 3 6 ≡ 32)
+  unfolding worked_runs
+  drawn_by_law =
+      let s = (drawn_paintings rules characters (frame it events) (Some 4) true 5 tt (at 0 ∷ at 1 ∷ []) (at 2) [] (scene 0 ∷ scene 1 ∷ []) (scene 2) before comes).shown in
+      let c = (drawn_closings rules characters (frame it events) (Some 4) true 5 7 tt tt (at 0 ∷ at 1 ∷ []) (at 2) [] (scene 0 ∷ scene 1 ∷ []) (scene 2) before comes (All-nil (RendersNothing rules)) (omega arith)).1 in
+      (s.fresh.row, s.fresh.col, s.fresh.shown 4 (omega arith), s.fresh.shown 5 (omega arith), s.above 1 0 (omega arith) (omega arith) (omega arith), c.row, c.col, c.blank_below 3 6 (omega arith) (omega arith))
 
-low_sent : ComesSent rules characters 4 5 low_run (low_first ∷ []) low_last [] (sized_scene rules low_first ∷ []) (sized_scene rules low_last) (first_known 5) (full 3) (before 3)
-low_sent = record {
-  comes = low_comes;
-  sent = low_sendable;
-  narrow = omega arith;
-  color = tt;
-  shows = first_is_shown characters 4 5 (full 3) (omega arith) (omega arith) refl refl refl refl;
-}
+  -- and what is seen
+  drawn_is : (drawn.row ≡ 3) × (drawn.cell 2 4 ≡ 32) × (drawn.cell 3 0 ≡ cluster_number han) × (drawn.cell 3 2 ≡ cluster_number crab) × (closed.row ≡ 3) × (closed.cell 1 3 ≡ cluster_number accented) × (closed.cell 0 0 ≡ 67)
+  unfolding worked_runs
+  drawn_is = (refl, refl, refl, refl, refl, refl, refl)
 
-abbrev low_bytes : Sent
-low_bytes = sent_paintings rules (low_first ∷ low_last ∷ []) (first_known 5)
+  -- the second row does not begin at the edge, and is not cleared by the closing batch
+  drawn_is_whole : drawn.cell 2 4 ≡ cluster_number han → ⊥
+  unfolding worked_runs
+  drawn_is_whole parted = let off : 32 ≡ cluster_number han = parted in omega (arith, off)
 
-abbrev low_terminal : EcmaScreen ℕ
-low_terminal = receive_all characters 4 5 low_bytes.bytes (full 3)
+  closing_keeps : closed.cell 2 0 ≡ 32 → ⊥
+  unfolding worked_runs
+  closing_keeps gone = let off : cluster_number han ≡ 32 = gone in omega (arith, off)
 
--- the two paintings, byte by byte
-low_written : low_bytes.bytes ≡ prompted (to_right (codes "2C") (13 ∷ prompted (codes "abcdef" ++ to_right (codes "3C") [])))
-unfolding glyphs pieces column_width painted_on apply destination searched_again search_step boundary_below is_boundary iterate greatest_below least_from unicode_segmentation digits
-low_written = refl
+  -- ---- on a terminal that is sent its bytes
 
-low_known : low_bytes.next ≡ record { cols = 5; x = 3; parted = false; attributes = default_attributes }
-unfolding glyphs pieces column_width painted_on apply destination searched_again search_step boundary_below is_boundary iterate greatest_below least_from unicode_segmentation digits
-low_known = refl
+  sent : ComesSent rules characters 4 5 (frame it events) (at 0 ∷ at 1 ∷ []) (at 2) [] (scene 0 ∷ scene 1 ∷ []) (scene 2) (first_known 5) full before
+  unfolding worked_runs
+  sent = record {
+    comes = comes;
+    sent = (
+      record { cols = refl; showable = record { typed = record { prompt = (refl, tt); line = (refl, tt); lower = tt }; near = omega arith; back = omega arith; under = omega arith } },
+      (
+        record { cols = refl; showable = record { typed = record { prompt = (refl, tt); line = (refl, tt); lower = tt }; near = omega arith; back = omega arith; under = omega arith } },
+        (record { cols = refl; showable = record { typed = record { prompt = (refl, tt); line = (refl, tt); lower = tt }; near = omega arith; back = omega arith; under = omega arith } }, tt),
+      ),
+    );
+    narrow = omega arith;
+    color = tt;
+    shows = first_is_shown characters 4 5 full (omega arith) (omega arith) refl refl refl refl;
+  }
 
--- by the law
-low_by_law : (low_terminal.row ≡ 3) × (low_terminal.col ≡ 3) × (low_terminal.cell 2 0 ≡ 62) × (low_terminal.cell 3 2 ≡ 102) × (low_terminal.cell 1 0 ≡ 67)
-unfolding glyphs pieces column_width painted_on apply destination searched_again search_step boundary_below is_boundary iterate greatest_below least_from unicode_segmentation
-low_by_law =
-    let s = paintings_are_shown characters rules low_run 4 5 (low_first ∷ []) low_last [] (sized_scene rules low_first ∷ []) (sized_scene rules low_last) (first_known 5) (full 3) (before 3) carries joins low_sent in
-    let fresh = s.1.shown.fresh in (
-      s.0.row ∙ fresh.row,
-      s.0.col ∙ ap (λ c. min c 4) fresh.col,
-      s.0.cells 2 0 (omega arith) (omega arith) ∙ fresh.shown 0 (omega arith),
-      s.0.cells 3 2 (omega arith) (omega arith) ∙ fresh.shown 7 (omega arith),
-      s.0.cells 1 0 (omega arith) (omega arith) ∙ s.1.shown.above 1 0 (omega arith) (omega arith) (omega arith),
-    )
+  -- a station for five columns is none that is sent at six
+  not_sent_at_six : IsSentAt 4 6 (scene 1) → ⊥
+  unfolding worked_runs
+  not_sent_at_six at_six = let off : 5 ≡ 6 = at_six.cols in omega (arith, off)
 
--- and by the bytes: two rows have gone out of sight
-low_by_bytes : (low_terminal.row ≡ 3) × (low_terminal.col ≡ 3) × (low_terminal.cell 2 0 ≡ 62) × (low_terminal.cell 3 2 ≡ 102) × (low_terminal.cell 1 0 ≡ 67) × (low_terminal.cell 3 3 ≡ 32)
-unfolding glyphs pieces column_width painted_on apply destination searched_again search_step boundary_below is_boundary iterate greatest_below least_from unicode_segmentation digits
-low_by_bytes = (refl, refl, refl, refl, refl, refl)
+  abbrev shown : EcmaScreen ℕ
+  shown = receive_all characters 4 5 (sent_paintings rules (at 0 ∷ at 1 ∷ at 2 ∷ []) (first_known 5)).bytes full
 
--- not with a byte less, not a row higher, and no stale D stands after the line
-low_is_whole : length low_bytes.bytes ≡ 56 → ⊥
-unfolding glyphs pieces column_width painted_on apply destination searched_again search_step boundary_below is_boundary iterate greatest_below least_from unicode_segmentation digits
-low_is_whole less = let off : 57 ≡ 56 = less in omega (arith, off)
+  shown_by_law : (shown.row ≡ 3) × (shown.col ≡ 3) × (shown.cell 2 3 ≡ cluster_number accented) × (shown.cell 3 0 ≡ cluster_number han) × (shown.cell 1 0 ≡ 67)
+  unfolding worked_runs
+  shown_by_law =
+      let s = paintings_are_shown characters rules (frame it events) 4 5 (at 0 ∷ at 1 ∷ []) (at 2) [] (scene 0 ∷ scene 1 ∷ []) (scene 2) (first_known 5) full before (λ change a. refl) characters_join sent in
+      let fresh = s.1.shown.fresh in (
+        s.0.row ∙ fresh.row,
+        s.0.col ∙ ap (λ c. min c 4) fresh.col,
+        s.0.cells 2 3 (omega arith) (omega arith) ∙ fresh.shown 3 (omega arith),
+        s.0.cells 3 0 (omega arith) (omega arith) ∙ fresh.shown 5 (omega arith),
+        s.0.cells 1 0 (omega arith) (omega arith) ∙ s.1.shown.above 1 0 (omega arith) (omega arith) (omega arith),
+      )
 
-low_is_low : low_terminal.row ≡ 2 → ⊥
-unfolding glyphs pieces column_width painted_on apply destination searched_again search_step boundary_below is_boundary iterate greatest_below least_from unicode_segmentation digits
-low_is_low higher = let off : 3 ≡ 2 = higher in omega (arith, off)
+  -- ---- the reading of a terminal over a writer
 
-low_is_fresh : low_terminal.cell 3 3 ≡ 68 → ⊥
-unfolding glyphs pieces column_width painted_on apply destination searched_again search_step boundary_below is_boundary iterate greatest_below least_from unicode_segmentation digits
-low_is_fresh stale = let off : 32 ≡ 68 = stale in omega (arith, off)
+  abbrev second : AnsiTerminal Wrote
+  second = with_batch (batch_at it events 1) (with_batch (batch_at it events 0) (old it))
 
--- ---- and its closing batch
+  abbrev fourth : AnsiTerminal Wrote
+  fourth = with_batch (batch_at it events 3) (with_batch (batch_at it events 2) second)
 
-abbrev end_bytes : Sent
-end_bytes = sent_run rules low_run (low_first ∷ low_last ∷ []) (first_known 5)
+  abbrev new : AnsiTerminal Wrote
+  new = flushed_now fourth
 
-abbrev end_terminal : EcmaScreen ℕ
-end_terminal = receive_all characters 4 5 end_bytes.bytes (full 3)
+  reading : IsSentReading rules Some prompt [] (old it) new events (63 ∷ [])
+  unfolding worked_runs
+  reading = record {
+    reading = record {
+      before = [];
+      steps = step.Took (batch_at it events 0) ∷ step.Told (Paste text) ∷ step.Took (batch_at it events 1) ∷ step.Told (Key (key_press 8 (Char 67)))
+          ∷ step.Took (batch_at it events 2) ∷ step.Took (batch_at it events 3) ∷ step.Flushed ∷ [];
+      told = refl;
+      left = [];
+      answer = Cancelled;
+      read = (
+        (
+          record { state = record (whole it events).state { mode = Inactive }; mark = None },
+          (events, refl, refl, record { answer_is = refl; batches = refl; left = refl; size = refl; state = refl; value = refl; mark = refl; flushed = refl; failures = refl }),
+        ),
+        λ unended. absurd (false≢true (sym unended)),
+      );
+      done = (
+        Called (Took _) ∷ Called (Took _) ∷ Called (Took _) ∷ Called (Took _) ∷ Called Other ∷ [],
+        refl,
+        (_, takes _ _, (second, takes _ _, (_, takes _ _, (fourth, takes _ _, (new, flushes fourth, refl))))),
+      );
+      holds = refl;
+    };
+    cols = tt;
+  }
 
-end_written : end_bytes.bytes ≡ low_bytes.bytes ++ closing_bytes
-unfolding glyphs pieces column_width painted_on apply destination searched_again search_step boundary_below is_boundary iterate greatest_below least_from unicode_segmentation digits
-end_written = refl
+  abbrev ended : List ℕ → EcmaScreen ℕ
+  ended bytes = receive_all characters 4 5 bytes full
 
-end_by_law : (end_terminal.row ≡ 3) × (end_terminal.col ≡ 0) × (end_terminal.cell 3 0 ≡ 32)
-unfolding glyphs pieces column_width painted_on apply destination searched_again search_step boundary_below is_boundary iterate greatest_below least_from unicode_segmentation
-end_by_law =
-    let s = closings_are_shown characters rules low_run 4 5 (low_first ∷ []) low_last [] (sized_scene rules low_first ∷ []) (sized_scene rules low_last) (first_known 5) (full 3) (before 3) carries joins low_sent (All-nil (RendersNothing rules)) in
-    let shown = s.1.0 in
-    let below = s.1.1 in (
-      shown.row ∙ below.row,
-      shown.col ∙ ap (λ c. min c 4) below.col,
-      shown.cells 3 0 (omega arith) (omega arith) ∙ below.blank_below 3 0 (omega (arith, below.row)) (omega arith),
-    )
+  -- the law names some bytes, which are those that were written
+  ended_by_law : (bytes : List ℕ) × (new.writer ≡ 63 ∷ bytes) × ((ended bytes).row ≡ 3) × ((ended bytes).col ≡ 0) × ((ended bytes).cell 3 0 ≡ 32)
+  unfolding worked_runs
+  ended_by_law =
+      let closes = closings_are_shown characters rules (frame it events) 4 5 (at 0 ∷ at 1 ∷ []) (at 2) [] (scene 0 ∷ scene 1 ∷ []) (scene 2) (first_known 5) full before (λ change a. refl) characters_join sent (All-nil (RendersNothing rules)) in
+      let written = (readings_are_sent rules Some prompt [] (old it) new events (63 ∷ []) (batches_of rules (at 0 ∷ at 1 ∷ at 2 ∷ [])) reading closes.0).0 in
+      let below = closes.1.1 in (
+        (sent_run rules (frame it events) (at 0 ∷ at 1 ∷ at 2 ∷ []) (first_known 5)).bytes,
+        ap (λ held. unwrap_or held []) written,
+        closes.1.0.row ∙ below.row,
+        closes.1.0.col ∙ ap (λ c. min c 4) below.col,
+        closes.1.0.cells 3 0 (omega arith) (omega arith) ∙ below.blank_below 3 0 (omega (arith, below.row)) (omega arith),
+      )
 
-end_by_bytes : (end_terminal.row ≡ 3) × (end_terminal.col ≡ 0) × (end_terminal.cell 3 0 ≡ 32) × (end_terminal.cell 2 2 ≡ 102) × (end_terminal.cell 1 0 ≡ 62) × (end_terminal.cell 0 0 ≡ 67)
-unfolding glyphs pieces column_width painted_on apply destination searched_again search_step boundary_below is_boundary iterate greatest_below least_from unicode_segmentation digits
-end_by_bytes = (refl, refl, refl, refl, refl, refl)
+  abbrev written_bytes : List ℕ
+  written_bytes = prompted [] (to_right (codes "2C") (13 ∷ prompted text (to_right (codes "3C") (csi (codes "1A") (13 ∷ prompted text (to_right (codes "3C") closing_bytes))))))
 
--- the cursor does not stay in the row of the line, and the line is not cleared
-end_is_below : end_terminal.cell 3 0 ≡ 100 → ⊥
-unfolding glyphs pieces column_width painted_on apply destination searched_again search_step boundary_below is_boundary iterate greatest_below least_from unicode_segmentation digits
-end_is_below stays = let off : 32 ≡ 100 = stays in omega (arith, off)
+  written_is : new.writer ≡ 63 ∷ written_bytes
+  unfolding worked_runs
+  written_is = refl
 
-end_keeps : end_terminal.cell 2 2 ≡ 32 → ⊥
-unfolding glyphs pieces column_width painted_on apply destination searched_again search_step boundary_below is_boundary iterate greatest_below least_from unicode_segmentation digits
-end_keeps gone = let off : 102 ≡ 32 = gone in omega (arith, off)
+  ended_by_bytes : let last = ended written_bytes in (last.row ≡ 3) × (last.col ≡ 0) × (last.cell 0 0 ≡ 67) × (last.cell 1 3 ≡ cluster_number accented) × (last.cell 2 2 ≡ cluster_number crab) × (last.cell 3 0 ≡ 32)
+  unfolding worked_runs
+  ended_by_bytes = (refl, refl, refl, refl, refl, refl)
 
--- ---- a station for five columns is none that is sent at six
-
-not_sent_at_six : IsSentAt 4 6 (sized_scene rules low_last) → ⊥
-unfolding glyphs pieces column_width painted_on apply destination searched_again search_step boundary_below is_boundary iterate greatest_below least_from
-not_sent_at_six sent = let off : 5 ≡ 6 = sent.cols in omega (arith, off)
-
--- ---- "漢字仮" is pasted: the second character does not fit in the first row, and what was cleared there stays blank;
--- the column of plain rules knows nothing of it, so the cursor stands a column before the end
-
-abbrev han : List ℕ
-han = 230 ∷ 188 ∷ 162 ∷ []
-
-abbrev letter : List ℕ
-letter = 229 ∷ 173 ∷ 151 ∷ []
-
-abbrev kana : List ℕ
-kana = 228 ∷ 187 ∷ 174 ∷ []
-
-abbrev wide_run : Frame Lines
-wide_run = frame_with 5 (Paste (han ++ letter ++ kana) ∷ [])
-
-abbrev wide_first : Station Lines
-wide_first = nth (stations_of rules wide_run) 0
-
-abbrev wide_last : Station Lines
-wide_last = nth (stations_of rules wide_run) 1
-
-wide_comes : ComesMeasured rules characters (Some 4) wide_run (wide_first ∷ []) wide_last [] (sized_scene rules wide_first ∷ []) (sized_scene rules wide_last) (before 3)
-unfolding glyphs pieces column_width painted_on apply destination searched_again search_step boundary_below is_boundary iterate greatest_below least_from unicode_segmentation unicode_width
-wide_comes = record {
-  comes = record { nothing_painted = refl; stations = refl; painting = painting_in (station_painting rules wide_last); painted = refl };
-  alike = (
-    measured_is_itself characters (sized_scene rules wide_first) (omega arith, record { prompt = refl; line = refl; lower = tt }),
-    (measured_is_itself characters (sized_scene rules wide_last) (omega arith, record { prompt = refl; line = refl; lower = tt }), tt),
-  );
-  low = all_low (Some 4) (sized_scene rules wide_first ∷ sized_scene rules wide_last ∷ []) (omega arith, (omega arith, tt));
-  at_start = refl;
-  in_sight = omega arith;
-}
-
-wide_sent : ComesSent rules characters 4 5 wide_run (wide_first ∷ []) wide_last [] (sized_scene rules wide_first ∷ []) (sized_scene rules wide_last) (first_known 5) (full 3) (before 3)
-unfolding glyphs pieces column_width painted_on apply destination searched_again search_step boundary_below is_boundary iterate greatest_below least_from unicode_segmentation unicode_width is_sent
-wide_sent = record {
-  comes = wide_comes;
-  sent = (
-    record { cols = refl; showable = record { typed = record { prompt = (refl, tt); line = (refl, tt); lower = tt }; near = omega arith; back = omega arith; under = omega arith } },
-    (record { cols = refl; showable = record { typed = record { prompt = (refl, tt); line = (refl, tt); lower = tt }; near = omega arith; back = omega arith; under = omega arith } }, tt),
-  );
-  narrow = omega arith;
-  color = tt;
-  shows = first_is_shown characters 4 5 (full 3) (omega arith) (omega arith) refl refl refl refl;
-}
-
-abbrev wide_bytes : Sent
-wide_bytes = sent_paintings rules (wide_first ∷ wide_last ∷ []) (first_known 5)
-
-abbrev wide_terminal : EcmaScreen ℕ
-wide_terminal = receive_all characters 4 5 wide_bytes.bytes (full 3)
-
-wide_written : wide_bytes.bytes ≡ prompted (to_right (codes "2C") (13 ∷ prompted (han ++ letter ++ kana ++ to_right (codes "3C") [])))
-unfolding glyphs pieces column_width painted_on apply destination searched_again search_step boundary_below is_boundary iterate greatest_below least_from unicode_segmentation unicode_width digits
-wide_written = refl
-
-wide_by_law : (wide_terminal.row ≡ 3) × (wide_terminal.col ≡ 3) × (wide_terminal.cell 2 2 ≡ cluster_number han) × (wide_terminal.cell 2 4 ≡ 32) × (wide_terminal.cell 3 0 ≡ cluster_number letter)
-unfolding glyphs pieces column_width painted_on apply destination searched_again search_step boundary_below is_boundary iterate greatest_below least_from unicode_segmentation unicode_width
-wide_by_law =
-    let s = paintings_are_shown characters rules wide_run 4 5 (wide_first ∷ []) wide_last [] (sized_scene rules wide_first ∷ []) (sized_scene rules wide_last) (first_known 5) (full 3) (before 3)
-    carries joins wide_sent in
-    let fresh = s.1.shown.fresh in (
-      s.0.row ∙ fresh.row,
-      s.0.col ∙ ap (λ c. min c 4) fresh.col,
-      s.0.cells 2 2 (omega arith) (omega arith) ∙ fresh.shown 2 (omega arith),
-      s.0.cells 2 4 (omega arith) (omega arith) ∙ fresh.shown 4 (omega arith),
-      s.0.cells 3 0 (omega arith) (omega arith) ∙ fresh.shown 5 (omega arith),
-    )
-
-wide_by_bytes : (wide_terminal.row ≡ 3) × (wide_terminal.col ≡ 3) × (wide_terminal.cell 2 2 ≡ cluster_number han) × (wide_terminal.cell 2 4 ≡ 32) × (wide_terminal.cell 3 0 ≡ cluster_number letter)
-    × (wide_terminal.cell 3 2 ≡ cluster_number kana) × (wide_terminal.cell 3 4 ≡ 32) × (wide_terminal.cell 1 0 ≡ 67)
-unfolding glyphs pieces column_width painted_on apply destination searched_again search_step boundary_below is_boundary iterate greatest_below least_from unicode_segmentation unicode_width digits
-wide_by_bytes = (refl, refl, refl, refl, refl, refl, refl, refl)
-
--- no character is parted at the edge
-wide_is_whole : wide_terminal.cell 2 4 ≡ cluster_number letter → ⊥
-unfolding glyphs pieces column_width painted_on apply destination searched_again search_step boundary_below is_boundary iterate greatest_below least_from unicode_segmentation unicode_width digits
-wide_is_whole parted = let off : 32 ≡ cluster_number letter = parted in omega (arith, off)
+  -- no D stands below
+  ended_is_fresh : (ended written_bytes).cell 3 0 ≡ 68 → ⊥
+  unfolding worked_runs
+  ended_is_fresh stale = let off : 32 ≡ 68 = stale in omega (arith, off)

@@ -1,6 +1,5 @@
 pub mod Rests
-pub mod SentReadings
 pub mod SentRuns
-pub mod SizedReadings
+pub mod SentReadings
 pub mod PlainRuns
 pub mod DrawnRuns

@@ -20,7 +20,7 @@ use Rattle.tw_ansi.specs.EcmaPaintings.{IsTypedScene}
 use Rattle.tw_ansi.specs.EcmaScreen.{EcmaScreen, receive_all}
 use Rattle.tw_ansi.specs.EcmaScreen as terminal
 use Rattle.laws_runs.specs.SentRuns.{IsSentAt, HealsSent}
-use Rattle.laws_runs.specs.SizedReadings.{sent_at, sent_sized, stations_sized}
+use Rattle.laws_runs.specs.SentReadings.{sent_at, sent_sized, stations_sized}
 
 -- it has read no part of a sequence, and these attributes are selected
 abbrev pub Rests : {C : Type 0} → CellAttributes → EcmaScreen C → Type 0

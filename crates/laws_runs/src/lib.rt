@@ -22,9 +22,8 @@ ghost use Rattle.laws_runs.specs.DrawnRuns.{DrawnCallsStack, DrawnClosings, Draw
 ghost use Rattle.laws_runs.specs.PlainRuns.{CallsStack, Closings, Paintings, PaintsNothing};
 ghost use Rattle.laws_screens.specs.Pens.{Pen};
 ghost use Rattle.laws_runs.specs.Rests.{ResizedHeals, RestIsKept};
-ghost use Rattle.laws_runs.specs.SentReadings.{ReadingsAreSent};
+ghost use Rattle.laws_runs.specs.SentReadings.{ReadingsAreSent, ReadingsAreSized, SinceIsSent, SinceIsSentWhole};
 ghost use Rattle.laws_runs.specs.SentRuns.{ClosingsAreShown, HealedClosingsAreShown, HealingsAreShown, PaintingsAreShown};
-ghost use Rattle.laws_runs.specs.SizedReadings.{ReadingsAreSized, SinceIsSent, SinceIsSentWhole};
 
 use std::io::Write;
 use tw_host::LineEditorHost;
@@ -91,6 +90,7 @@ pub fn sized_readings<H: LineEditorHost, W: Write>()
 /// What is sent of stations of such texts and of colours by bytes leaves a terminal at rest under the attributes that are
 /// known then, whatever becomes of its size, its cells and its cursor between the batches. So a terminal that was
 /// at rest where a reading began, and has changed its size since, is one that the next clearing heals.
+#[tactic(auto, using(crate::proofs::RestLemmas::rest_is_kept, crate::proofs::RestLemmas::resized_heals))]
 pub fn rested<H: LineEditorHost, A, C>()
     ensures kept { (pen : Pen A C) → RestIsKept H.rules pen }
     ensures heals { (pen : Pen A C) → ResizedHeals H.rules pen }

@@ -1,9 +1,11 @@
 -- What a screen draws of texts and attributes, and that its cursor is where they are measured to end.
-use Rattle.std.proofs.Common.{◌≡◌, ℕ, zero, suc, ◌+◌, pos, ◌+ℤ◌, Bool, true, false, cond, leb, List, [], ◌∷◌, ◌++◌, map, length, refl, sym, ap, ◌∙◌, arith, if◌then◌else◌}
+use Rattle.std.proofs.Common.{◌≡◌, ℕ, zero, suc, ◌+◌, pos, ◌+ℤ◌, true, cond, leb, List, [], ◌∷◌, ◌++◌, map, length, refl, sym, ap, ◌∙◌, arith}
 use Rattle.std.specs.List.{list_all, flat_map}
+use Rattle.std.proofs.lemmas.Bool.Decides.{nat_tests}
 use Rattle.std.proofs.lemmas.Bool.{and_parts, and_from, false≢true}
 use Rattle.std.proofs.lemmas.Int.{ints}
-use Rattle.std.proofs.lemmas.List.{append_assoc, map-append, length-replicate}
+use Rattle.std.proofs.lemmas.List.{append_assoc, map-append, map-id, length-replicate}
+use Rattle.std.proofs.lemmas.Simd.{map-map}
 use Rattle.std.proofs.lemmas.List.Folds.{list_all-append}
 use Rattle.unicode_segmentation.specs.Grapheme.{graphemes}
 use Rattle.laws_screens.specs.Strokes.{PictureOf, Stroke, put, step, steps}
@@ -11,13 +13,12 @@ use Rattle.laws_screens.specs.Strokes.Stroke.{Put, Return, Feed}
 use Rattle.laws_screens.specs.Sheets.{is_narrow, typed, broken}
 use Rattle.tw_surface.specs.declared.measure.Piece.{Piece}
 use Rattle.tw_surface.specs.declared.measure.Piece.TheVariants as piece
-use Rattle.tw_surface.specs.ChangeView.{Batch}
-use Rattle.tw_surface.specs.ChangeView.{Attribute, AllAttributes, Text, ClearScreen, ClearToEndOfScreen, CursorPosition}
-use Rattle.tw_surface.specs.Characters.{is_plain}
+use Rattle.tw_surface.specs.ChangeView.{Batch, Attribute, AllAttributes, Text}
 use Rattle.tw_surface.specs.Places.{Place, pieces, plain_piece, cluster_piece, next_place, end_of_pieces, place_after_all}
 use Rattle.tw_surface.specs.Scenes.{is_text}
 use Rattle.laws_screens.specs.Glyphs.{Glyph, piece_of, glyphs_of_piece, glyphs, typed_glyphs, is_pair, before_by, lines_by, fits_in, types_fitting}
 use Rattle.laws_screens.specs.Glyphs.Glyph.{Cr, Lf, Cluster}
+use Rattle.laws_screens.proofs.LineOfCells.{steps-append}
 use Rattle.laws_screens.specs.Pens.{Pen, Letter, cluster_cells, cells_under, glyph_stroke, kept_after, kept_after_all, change_strokes, strokes_of, letters_under, letters_of, lines_of_letters, letter_cells}
 
 -- ---- the measure
@@ -39,35 +40,19 @@ pieces-end w cluster q (x ∷ xs) p =
 -- the glyphs of a text lead where its pieces do
 pub glyphs-end : (w : ℕ) (text : List ℕ) (p : Place) → end_of_pieces w (map piece_of (glyphs text)) p ≡ end_of_pieces w (pieces text) p
 unfolding glyphs pieces
-glyphs-end w text p = by_kind (list_all is_plain text)
-  where
-    by_kind : (k : Bool) → end_of_pieces w (map piece_of (if k then flat_map (λ ch. glyphs_of_piece (ch ∷ []) (plain_piece ch)) text
-        else flat_map (λ cluster. glyphs_of_piece cluster (cluster_piece cluster)) (graphemes true text))) p
-        ≡ end_of_pieces w (if k then map plain_piece text else map cluster_piece (graphemes true text)) p
-    by_kind true = pieces-end w (λ ch. ch ∷ []) plain_piece text p
-    by_kind false = pieces-end w (λ cluster. cluster) cluster_piece (graphemes true text) p
+glyphs-end w text p = grind (arith, nat_tests, pieces-end w (λ ch. ch ∷ []) plain_piece text p, pieces-end w (λ cluster. cluster) cluster_piece (graphemes true text) p)
 
 -- ---- texts that fit
 
-pub measured-text : (w : ℕ) (changes : Batch) → list_all (types_fitting w) changes ≡ true → list_all is_text changes ≡ true
-measured-text w [] h = refl
-measured-text w (Text text ∷ changes) h = measured-text w changes (and_parts _ _ h).1
-measured-text w (Attribute x ∷ changes) h = measured-text w changes h
-measured-text w (AllAttributes x ∷ changes) h = measured-text w changes h
-measured-text w (ClearScreen c ∷ changes) h = absurd (false≢true h)
-measured-text w (ClearToEndOfScreen c ∷ changes) h = absurd (false≢true h)
-measured-text w (CursorPosition x y ∷ changes) h = absurd (false≢true h)
-
-pub measured-glyphs : (w : ℕ) (changes : Batch) → list_all (types_fitting w) changes ≡ true → list_all (fits_in w) (typed_glyphs changes) ≡ true
-measured-glyphs w [] h = refl
-measured-glyphs w (Text text ∷ changes) h =
+pub measured-is : (w : ℕ) (changes : Batch) → list_all (types_fitting w) changes ≡ true → (list_all is_text changes ≡ true) × (list_all (fits_in w) (typed_glyphs changes) ≡ true)
+measured-is w [] h = (refl, refl)
+measured-is w (Text text ∷ changes) h =
     let both = and_parts (list_all (fits_in w) (glyphs text)) (list_all (types_fitting w) changes) h in
-    list_all-append (fits_in w) (glyphs text) (typed_glyphs changes) ∙ and_from _ _ both.0 (measured-glyphs w changes both.1)
-measured-glyphs w (Attribute x ∷ changes) h = measured-glyphs w changes h
-measured-glyphs w (AllAttributes x ∷ changes) h = measured-glyphs w changes h
-measured-glyphs w (ClearScreen c ∷ changes) h = absurd (false≢true h)
-measured-glyphs w (ClearToEndOfScreen c ∷ changes) h = absurd (false≢true h)
-measured-glyphs w (CursorPosition x y ∷ changes) h = absurd (false≢true h)
+    let rest = measured-is w changes both.1 in
+    (rest.0, list_all-append (fits_in w) (glyphs text) (typed_glyphs changes) ∙ and_from _ _ both.0 rest.1)
+measured-is w (Attribute x ∷ changes) h = measured-is w changes h
+measured-is w (AllAttributes x ∷ changes) h = measured-is w changes h
+measured-is w (_ ∷ changes) h = absurd (false≢true h)
 
 module _ {C : Type 0} where
   -- ---- the screen's cursor and the measured place, for a screen entered at row start
@@ -78,19 +63,20 @@ module _ {C : Type 0} where
 
   tracks-put : (w start v : ℕ) (cells : List C) (at : Place) (s : PictureOf C) → length cells ≡ v → Tracks w start at s
       → Tracks w start (cond (leb (at.x + v) w) record { x = at.x + v; y = at.y } record { x = v; y = at.y +ℤ pos 1 }) (put w cells s)
-  tracks-put w start v cells at s e t = go (leb (at.x + v) w) refl
-    where
-      same : leb (s.col + length cells) w ≡ leb (at.x + v) w
-      same = ap (λ c. leb (c + length cells) w) t.x ∙ ap (λ n. leb (at.x + n) w) e
+  tracks-put w start v cells at s e t = record { x = grind (arith, nat_tests, t.x, e); y = grind (arith, ints, nat_tests, t.x, t.y, e) }
 
-      go : (k : Bool) → leb (at.x + v) w ≡ k
-          → Tracks w start (cond (leb (at.x + v) w) record { x = at.x + v; y = at.y } record { x = v; y = at.y +ℤ pos 1 }) (put w cells s)
-      go true k = rw (same, k) (record { x = omega (arith, t.x, e); y = t.y })
-      go false k = rw (same, k) (record { x = e; y = omega (arith, ints, t.y) })
+-- ---- lines
 
-  pub strokes-after : (w : ℕ) (x y : List (Stroke C)) (s : PictureOf C) → steps w (x ++ y) s ≡ steps w y (steps w x s)
-  strokes-after w [] y s = refl
-  strokes-after w (stroke ∷ x) y s = strokes-after w x y (step w stroke s)
+-- the lines of some elements, by what each has for a glyph
+before-map : {X Y : Type 0} (f : X → Y) (glyph : Y → Glyph) (x : X) (ls : List (List X))
+    → map (map f) (before_by (λ x. glyph (f x)) x ls) ≡ before_by glyph (f x) (map (map f) ls)
+before-map f glyph x [] = refl
+before-map f glyph x ([] ∷ more) = refl
+before-map f glyph x ((y ∷ line) ∷ more) = grind (arith, nat_tests)
+
+pub lines-map : {X Y : Type 0} (f : X → Y) (glyph : Y → Glyph) (xs : List X) → map (map f) (lines_by (λ x. glyph (f x)) xs) ≡ lines_by glyph (map f xs)
+lines-map f glyph [] = refl
+lines-map f glyph (x ∷ xs) = before-map f glyph x (lines_by (λ x. glyph (f x)) xs) ∙ ap (before_by glyph (f x)) (lines-map f glyph xs)
 
 module _ {A : Type 0} where
   -- the glyph of a letter
@@ -98,24 +84,7 @@ module _ {A : Type 0} where
   letter_glyph letter = letter.glyph
 
   pub text-glyphs : (a : A) (text : List Glyph) → map letter_glyph (letters_under a text) ≡ text
-  text-glyphs a [] = refl
-  text-glyphs a (glyph ∷ text) = ap (λ l. glyph ∷ l) (text-glyphs a text)
-
-  -- ---- lines of letters
-
-  before-glyphs : (x : Letter A) (ls : List (List (Letter A))) → map (map letter_glyph) (before_by letter_glyph x ls) ≡ before_by (λ glyph. glyph) x.glyph (map (map letter_glyph) ls)
-  before-glyphs x [] = refl
-  before-glyphs x ([] ∷ more) = refl
-  before-glyphs x ((y ∷ line) ∷ more) = go (is_pair x.glyph y.glyph)
-    where
-      go : (k : Bool) → map (map letter_glyph) (if k then [] ∷ line ∷ more else (x ∷ y ∷ line) ∷ more)
-          ≡ (if k then [] ∷ map letter_glyph line ∷ map (map letter_glyph) more else (x.glyph ∷ y.glyph ∷ map letter_glyph line) ∷ map (map letter_glyph) more)
-      go true = refl
-      go false = refl
-
-  pub lines-glyphs : (letters : List (Letter A)) → map (map letter_glyph) (lines_of_letters letters) ≡ lines_by (λ glyph. glyph) (map letter_glyph letters)
-  lines-glyphs [] = refl
-  lines-glyphs (x ∷ letters) = before-glyphs x (lines_of_letters letters) ∙ ap (before_by (λ glyph. glyph) x.glyph) (lines-glyphs letters)
+  text-glyphs a text = map-map letter_glyph (λ glyph. record { kept = a; glyph = glyph }) text ∙ map-id text
 
 module _ {A C : Type 0} where
   pub cells-length : (pen : Pen A C) (a : A) (cluster : List ℕ) (v : ℕ) → length (cluster_cells pen a cluster v) ≡ v
@@ -128,11 +97,17 @@ module _ {A C : Type 0} where
   tracks-glyph pen a w start Lf at s t = record { x = t.x; y = omega (arith, ints, t.y) }
   tracks-glyph pen a w start (Cluster cluster v) at s t = tracks-put w start v (cluster_cells pen a cluster v) at s (cells-length pen a cluster v) t
 
-  tracks-glyphs : (pen : Pen A C) (a : A) (w start : ℕ) (t : List Glyph) (at : Place) (s : PictureOf C) → Tracks w start at s
-      → Tracks w start (end_of_pieces w (map piece_of t) at) (steps w (map (glyph_stroke pen a) t) s)
-  tracks-glyphs pen a w start [] at s k = k
-  tracks-glyphs pen a w start (glyph ∷ t) at s k =
-      tracks-glyphs pen a w start t (next_place w (piece_of glyph) at) (step w (glyph_stroke pen a glyph) s) (tracks-glyph pen a w start glyph at s k)
+  -- the stroke of a letter
+  abbrev pub letter_stroke : Pen A C → Letter A → Stroke C
+  letter_stroke pen letter = glyph_stroke pen letter.kept letter.glyph
+
+  pub text-letters : (pen : Pen A C) (a : A) (text : List Glyph) → map (glyph_stroke pen a) text ≡ map (letter_stroke pen) (letters_under a text)
+  text-letters pen a text = sym (map-map (letter_stroke pen) (λ glyph. record { kept = a; glyph = glyph }) text)
+
+  pub tracks-letters : (pen : Pen A C) (w start : ℕ) (letters : List (Letter A)) (at : Place) (s : PictureOf C) → Tracks w start at s
+      → Tracks w start (end_of_pieces w (map piece_of (map letter_glyph letters)) at) (steps w (map (letter_stroke pen) letters) s)
+  tracks-letters pen w start [] at s t = t
+  tracks-letters pen w start (x ∷ letters) at s t = tracks-letters pen w start letters _ _ (tracks-glyph pen x.kept w start x.glyph at s t)
 
   pub tracks-changes : (pen : Pen A C) (a : A) (w start : ℕ) (changes : Batch) (at : Place) (s : PictureOf C) → list_all is_text changes ≡ true → Tracks w start at s
       → Tracks w start (place_after_all w changes at) (steps w (strokes_of pen a changes) s)
@@ -140,12 +115,10 @@ module _ {A C : Type 0} where
   tracks-changes pen a w start (Attribute x ∷ changes) at s k t = tracks-changes pen (pen.attribute x a) w start changes at s k t
   tracks-changes pen a w start (AllAttributes x ∷ changes) at s k t = tracks-changes pen (pen.attributes x) w start changes at s k t
   tracks-changes pen a w start (Text text ∷ changes) at s k t =
-      rw (strokes-after w (map (glyph_stroke pen a) (glyphs text)) (strokes_of pen a changes) s)
+      rw (steps-append w (map (glyph_stroke pen a) (glyphs text)) (strokes_of pen a changes) s)
       (tracks-changes pen a w start changes (end_of_pieces w (pieces text) at) (steps w (map (glyph_stroke pen a) (glyphs text)) s) k
-      (rw (sym (glyphs-end w text at)) (tracks-glyphs pen a w start (glyphs text) at s t)))
-  tracks-changes pen a w start (ClearScreen c ∷ changes) at s k t = absurd (false≢true k)
-  tracks-changes pen a w start (ClearToEndOfScreen c ∷ changes) at s k t = absurd (false≢true k)
-  tracks-changes pen a w start (CursorPosition x y ∷ changes) at s k t = absurd (false≢true k)
+      (rw (text-glyphs a (glyphs text), ← text-letters pen a (glyphs text), glyphs-end w text at) at (tracks-letters pen w start (letters_under a (glyphs text)) at s t)))
+  tracks-changes pen a w start (_ ∷ changes) at s k t = absurd (false≢true k)
 
   -- ---- what is kept
 
@@ -158,16 +131,8 @@ module _ {A C : Type 0} where
   pub strokes-append : (pen : Pen A C) (a : A) (x y : Batch) → strokes_of pen a (x ++ y) ≡ strokes_of pen a x ++ strokes_of pen (kept_after_all pen a x) y
   strokes-append pen a [] y = refl
   strokes-append pen a (change ∷ x) y =
-      ap (λ l. change_strokes pen a change ++ l) (strokes-append pen (kept_after pen a change) x y)
-      ∙ sym (append_assoc (change_strokes pen a change) (strokes_of pen (kept_after pen a change) x) (strokes_of pen (kept_after_all pen (kept_after pen a change) x) y))
-
-  -- the stroke of a letter
-  abbrev pub letter_stroke : Pen A C → Letter A → Stroke C
-  letter_stroke pen letter = glyph_stroke pen letter.kept letter.glyph
-
-  pub text-letters : (pen : Pen A C) (a : A) (text : List Glyph) → map (glyph_stroke pen a) text ≡ map (letter_stroke pen) (letters_under a text)
-  text-letters pen a [] = refl
-  text-letters pen a (glyph ∷ text) = ap (λ l. glyph_stroke pen a glyph ∷ l) (text-letters pen a text)
+      let k : A = kept_after pen a change in
+      cc (strokes-append pen k x y, append_assoc (change_strokes pen a change) (strokes_of pen k x) (strokes_of pen (kept_after_all pen k x) y))
 
   -- texts and attributes draw the letters that they type
   pub strokes-letters : (pen : Pen A C) (a : A) (changes : Batch) → list_all is_text changes ≡ true
@@ -176,12 +141,8 @@ module _ {A C : Type 0} where
   strokes-letters pen a (Attribute x ∷ changes) k = strokes-letters pen (pen.attribute x a) changes k
   strokes-letters pen a (AllAttributes x ∷ changes) k = strokes-letters pen (pen.attributes x) changes k
   strokes-letters pen a (Text text ∷ changes) k =
-      ap (λ l. l ++ strokes_of pen a changes) (text-letters pen a (glyphs text))
-      ∙ ap (λ l. map (letter_stroke pen) (letters_under a (glyphs text)) ++ l) (strokes-letters pen a changes k)
-      ∙ sym (map-append (letter_stroke pen) (letters_under a (glyphs text)) (letters_of pen a changes))
-  strokes-letters pen a (ClearScreen c ∷ changes) k = absurd (false≢true k)
-  strokes-letters pen a (ClearToEndOfScreen c ∷ changes) k = absurd (false≢true k)
-  strokes-letters pen a (CursorPosition x y ∷ changes) k = absurd (false≢true k)
+      cc (text-letters pen a (glyphs text), strokes-letters pen a changes k, map-append (letter_stroke pen) (letters_under a (glyphs text)) (letters_of pen a changes))
+  strokes-letters pen a (_ ∷ changes) k = absurd (false≢true k)
 
   -- the letters that changes type are those of their glyphs
   pub glyphs-typed : (pen : Pen A C) (a : A) (changes : Batch) → map letter_glyph (letters_of pen a changes) ≡ typed_glyphs changes
@@ -189,12 +150,8 @@ module _ {A C : Type 0} where
   glyphs-typed pen a (Attribute x ∷ changes) = glyphs-typed pen (pen.attribute x a) changes
   glyphs-typed pen a (AllAttributes x ∷ changes) = glyphs-typed pen (pen.attributes x) changes
   glyphs-typed pen a (Text text ∷ changes) =
-      map-append letter_glyph (letters_under a (glyphs text)) (letters_of pen a changes)
-      ∙ ap (λ l. l ++ map letter_glyph (letters_of pen a changes)) (text-glyphs a (glyphs text))
-      ∙ ap (λ l. glyphs text ++ l) (glyphs-typed pen a changes)
-  glyphs-typed pen a (ClearScreen c ∷ changes) = glyphs-typed pen a changes
-  glyphs-typed pen a (ClearToEndOfScreen c ∷ changes) = glyphs-typed pen a changes
-  glyphs-typed pen a (CursorPosition x y ∷ changes) = glyphs-typed pen a changes
+      cc (map-append letter_glyph (letters_under a (glyphs text)) (letters_of pen a changes), text-glyphs a (glyphs text), glyphs-typed pen a changes)
+  glyphs-typed pen a (_ ∷ changes) = glyphs-typed pen a changes
 
   -- a cluster that fits in a row is put, a cell for each of its columns
   letter-put : (pen : Pen A C) (w : ℕ) (a : A) (glyph : Glyph) → fits_in w glyph ≡ true
@@ -225,24 +182,15 @@ module _ {A C : Type 0} where
   pair-strokes pen a c Cr Cr h = absurd (false≢true h)
   pair-strokes pen a c Cr Lf h = (refl, refl)
   pair-strokes pen a c Cr (Cluster d v) h = absurd (false≢true h)
-  pair-strokes pen a c Lf y h = absurd (false≢true h)
-  pair-strokes pen a c (Cluster d v) y h = absurd (false≢true h)
+  pair-strokes pen a c _ y h = absurd (false≢true h)
 
   breaks-before : (pen : Pen A C) (x : Letter A) (ls : List (List (Letter A))) (t : List (Stroke C)) → letter_breaks pen ls ≡ Return ∷ Feed ∷ t
       → letter_breaks pen (before_by letter_glyph x ls) ≡ Return ∷ Feed ∷ letter_stroke pen x ∷ t
   breaks-before pen x [] t e = absurd (cc (e))
   breaks-before pen x ([] ∷ more) t e = let d : letter_breaks pen more ≡ t = cc (e) in ap (λ l. Return ∷ Feed ∷ letter_stroke pen x ∷ l) d
-  breaks-before pen x ((y ∷ line) ∷ more) t e = go (is_pair x.glyph y.glyph) refl
-    where
-      d : letter_stroke pen y ∷ (map (letter_stroke pen) line ++ letter_breaks pen more) ≡ t
-      d = cc (e)
-
-      go : (k : Bool) → is_pair x.glyph y.glyph ≡ k
-          → letter_breaks pen (if k then [] ∷ line ∷ more else (x ∷ y ∷ line) ∷ more) ≡ Return ∷ Feed ∷ letter_stroke pen x ∷ t
-      go true k =
-          let both = pair-strokes pen x.kept y.kept x.glyph y.glyph k in
-          ap (λ l. Return ∷ Feed ∷ l) (sym (ap (λ z. z ∷ t) both.0 ∙ ap (λ l. Return ∷ l) (sym d ∙ ap (λ z. z ∷ (map (letter_stroke pen) line ++ letter_breaks pen more)) both.1)))
-      go false k = ap (λ l. Return ∷ Feed ∷ letter_stroke pen x ∷ l) d
+  breaks-before pen x ((y ∷ line) ∷ more) t e =
+      let d : letter_stroke pen y ∷ (map (letter_stroke pen) line ++ letter_breaks pen more) ≡ t = cc (e) in
+      grind (arith, nat_tests, d, pair-strokes pen x.kept y.kept x.glyph y.glyph)
 
   -- CR LF and letters are their lines with CR LF before each
   breaks-lines : (pen : Pen A C) (letters : List (Letter A)) → letter_breaks pen (lines_of_letters letters) ≡ Return ∷ Feed ∷ map (letter_stroke pen) letters
@@ -265,5 +213,5 @@ module _ {A C : Type 0} where
       → (Return ∷ Feed ∷ map (letter_stroke pen) letters ≡ broken (map (map (letter_cells pen)) (lines_of_letters letters)))
       × (list_all (list_all (is_narrow w)) (map (map (letter_cells pen)) (lines_of_letters letters)) ≡ true)
   letters-broken pen w letters h =
-      let all = breaks-broken pen w (lines_of_letters letters) (ap (list_all (list_all (fits_in w))) (lines-glyphs letters) ∙ h) in
+      let all = breaks-broken pen w (lines_of_letters letters) (ap (list_all (list_all (fits_in w))) (lines-map letter_glyph (λ glyph. glyph) letters) ∙ h) in
       (sym (breaks-lines pen letters) ∙ all.0, all.1)

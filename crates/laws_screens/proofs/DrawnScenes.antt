@@ -1,36 +1,79 @@
--- A painting of a measured scene draws its sheet, and its moves lead where they should.
-use Rattle.std.proofs.Common.{◌≡◌, ℕ, ℤ, zero, suc, pos, negsuc, ◌+ℤ◌, ◌-ℤ◌, neg_ℤ, ◌+◌, ◌-◌, ◌*◌, ◌/◌, ◌%◌, ◌<◌, ◌≤◌, Bool, true, false, ◌&&◌, ◌||◌, eqb, ltb, leb, List, [], ◌∷◌, ◌++◌, map, length, refl, sym, ap, subst, ◌∙◌, arith, inl, inr, if◌then◌else◌, length-append}
-use Rattle.std.specs.Prelude.{replicate}
+-- A painting of a measured scene draws its sheet, its moves lead where they should, and it is as high as is measured.
+use Rattle.std.proofs.Common.{mod-eq_of_lt, ◌≡◌, ℕ, ◌+◌, pos, ◌+ℤ◌, ◌-ℤ◌, ◌≤ℤ◌, nat_abs, Bool, true, false, eqb, leb, List, [], ◌∷◌, ◌++◌, refl, sym, ap, ap₂, subst, ◌∙◌, arith, ℤ, zero, suc, negsuc, neg_ℤ, ◌-◌, ◌*◌, ◌/◌, ◌%◌, ◌≤◌, ◌&&◌, ◌||◌, ltb, map, length, if◌then◌else◌, length-append}
 use Rattle.std.specs.List.{list_all}
-use Rattle.std.proofs.lemmas.Bool.{cases_eq, cases_lt, eq-eqb, ne_eqb, eqb-true, lt-ltb, le-leb, lt-leb, and_parts, and_from, true≢false}
-use Rattle.std.proofs.lemmas.Int.{ints}
-use Rattle.std.proofs.lemmas.Nat.{mod-mul-add, div-add-mod', mod_below}
-use Rattle.std.proofs.lemmas.List.{append-nil, append_assoc, map-append, length-replicate}
-use Rattle.std.proofs.lemmas.List.Folds.{list_all-append}
-use Rattle.std.proofs.Math.Nat.{add-mul, one-mul}
-use Rattle.laws_screens.specs.Strokes.{PictureOf, filled, step, steps}
-use Rattle.laws_screens.specs.Strokes.Stroke.{Return, Feed, ClearBehind, Move}
-use Rattle.laws_screens.specs.Sheets.{Sheet, Writing, laid, is_narrow, sheet_last_row, sheet_cursor_row, last_length, behind, end_col, typed, broken, drawing}
-use Rattle.laws_screens.specs.Paintings.{IsLed}
-use Rattle.laws_screens.proofs.LineOfCells.{at_row, at_col, over, over-outside, Stands, stands-as, typed-stands, steps-append}
-use Rattle.laws_screens.proofs.DrawnSheets.{Drawn, typed-ends, drawn, all_cells}
-use Rattle.tw_surface.specs.declared.change.Position.{Position}
-use Rattle.tw_surface.specs.ChangeView.{Batch}
-use Rattle.tw_surface.specs.ChangeView.{AllAttributes, Text, CursorPosition}
-use Rattle.tw_surface.specs.Characters.{cr, lf}
+use Rattle.std.proofs.lemmas.Bool.{false≢true, ne_eqb, le-leb, and_from}
+use Rattle.std.proofs.Math.Nat.{suc-mod, mod_self}
+use Rattle.std.proofs.lemmas.Int.{ints, clamps}
+use Rattle.tw_surface.specs.declared.measure.Piece.{Piece}
+use Rattle.tw_surface.specs.declared.measure.Piece.TheVariants.{Cr, Lf, Wide}
+use Rattle.tw_surface.specs.declared.measure.Extent.{Extent}
+use Rattle.tw_surface.specs.ChangeView.{Batch, Attribute, AllAttributes, Text, ClearToEndOfScreen, CursorPosition}
 use Rattle.tw_surface.specs.Defaults.{default_color, default_attributes}
 use Rattle.tw_surface.specs.Drawings.{height}
+use Rattle.tw_surface.specs.Extents.{place_of, reach, reach_all, extent_after_all, start_extent}
 use Rattle.tw_surface.specs.Paintings.{lower_changes, before_line, edge_space, shown_part, cursor_place}
-use Rattle.tw_surface.specs.Places.{place_after_all, origin}
+use Rattle.tw_surface.specs.Places.{Place, pieces, next_place, places_after, place_after_all, origin}
+use Rattle.tw_surface.specs.Scenes.{Scene, is_text, Lower}
+use Rattle.tw_surface.proofs.DrawingLemmas.{place_of-extent_after_all, height-extent}
+use Rattle.std.proofs.lemmas.Nat.{mod-mul-add, div-add-mod', mod_below}
+use Rattle.std.proofs.lemmas.List.{append-nil, append_assoc, map-append}
+use Rattle.std.proofs.lemmas.List.Folds.{list_all-append}
+use Rattle.laws_screens.specs.Strokes.{PictureOf, filled, step, steps}
+use Rattle.laws_screens.specs.Strokes.Stroke.{ClearBehind, Move}
+use Rattle.laws_screens.specs.Sheets.{Sheet, Writing, laid, is_narrow, sheet_last_row, sheet_cursor_row, last_length, behind, end_col, typed, broken, drawing}
+use Rattle.laws_screens.specs.Paintings.{IsLed}
+use Rattle.laws_screens.proofs.LineOfCells.{at_row, at_col, over, Stands, stands-as, typed-stands, laid-append, laid-one}
+use Rattle.laws_screens.proofs.DrawnSheets.{Drawn, typed-ends, drawn, all_cells}
+use Rattle.tw_surface.specs.declared.change.Position.{Position}
+use Rattle.tw_surface.specs.Characters.{cr, lf}
 use Rattle.tw_surface.specs.Positions.{at_least_0}
-use Rattle.tw_surface.specs.Scenes.{Scene, Lower, is_text}
 use Rattle.tw_surface.specs.Scenes.Lower.{NoLower, Preview, Search}
 use Rattle.laws_screens.specs.Glyphs.{glyphs, lines_by, fits_in, types_fitting, IsMeasuredLower, IsMeasured}
 use Rattle.laws_screens.specs.Glyphs.Glyph.{Cr, Lf, Cluster}
 use Rattle.laws_screens.specs.Pens.{Pen, Letter, kept_after_all, glyph_stroke, strokes_of, letter_cells, letters_under, letters_of, led}
 use Rattle.laws_screens.specs.SceneSheets.{head_letters, edge_letters, lower_letters, writing_of, sheet_of, painting_of}
-use Rattle.laws_screens.proofs.MeasuredHeights.{measured_height}
-use Rattle.laws_screens.proofs.DrawnChanges.{Tracks, letter_glyph, text-glyphs, measured-text, measured-glyphs, tracks-changes, strokes-append, strokes-letters, glyphs-typed, letters-typed, letters-broken, kept-append, text-letters}
+use Rattle.std.proofs.lemmas.Bool.Decides.{nat_tests}
+use Rattle.laws_screens.proofs.PlainGlyphs.{plain_glyphs}
+use Rattle.laws_screens.proofs.DrawnChanges.{Tracks, text-glyphs, measured-is, tracks-changes, strokes-append, strokes-letters, glyphs-typed, letters-typed, letters-broken, kept-append, text-letters}
+
+-- the last row is the greatest, and row 0 the least
+record Top (t : Extent) : Type 0 where
+  pub high : t.greatest ≡ t.y
+  pub low : t.least ≡ pos 0
+  pub above : pos 0 ≤ℤ t.y
+
+-- a place that is not above the last one is the last one
+top_reach : (t : Extent) (p : Place) → Top t → t.y ≤ℤ p.y → Top (reach t p)
+top_reach t p h down = record {
+  high = omega (arith, ints, clamps, h.high, h.above);
+  low = omega (arith, ints, clamps, h.low, h.above);
+  above = omega (arith, ints, h.above);
+}
+
+next_down : (cols : ℕ) (piece : Piece) (p : Place) → p.y ≤ℤ (next_place cols piece p).y
+next_down cols (Wide v) p = grind (arith, ints, nat_tests)
+next_down cols _ p = omega (arith, ints)
+
+top_along : (cols : ℕ) (ps : List Piece) (t : Extent) → Top t → Top (reach_all t (places_after cols ps (place_of t)))
+top_along cols [] t h = h
+top_along cols (piece ∷ more) t h = top_along cols more (reach t (next_place cols piece (place_of t))) (top_reach t _ h (next_down cols piece (place_of t)))
+
+top_text : (cols : ℕ) (changes : Batch) (t : Extent) → list_all is_text changes ≡ true → Top t → Top (extent_after_all cols changes t)
+top_text cols [] t a h = h
+top_text cols (Attribute x ∷ changes) t a h = top_text cols changes t a h
+top_text cols (AllAttributes x ∷ changes) t a h = top_text cols changes t a h
+top_text cols (Text text ∷ changes) t a h = top_text cols changes _ a (top_along cols (pieces text) t h)
+top_text cols (_ ∷ changes) t a h = absurd (false≢true a)
+
+-- the measured height is the row in which they end
+pub measured_height : (w : ℕ) (changes : Batch) → list_all is_text changes ≡ true
+    → (n : ℕ) → (place_after_all w changes origin).y ≡ pos n → height w (ClearToEndOfScreen default_color ∷ changes) ≡ n
+measured_height w changes texts n at =
+    let t : Extent = extent_after_all w changes start_extent in
+    let top : Top t = top_text w changes start_extent texts (record { high = refl; low = refl; above = omega (arith, ints) }) in
+    let y : t.y ≡ (place_after_all w changes origin).y = ap (λ p. p.y) (place_of-extent_after_all w changes start_extent) in
+    let e : nat_abs (t.greatest -ℤ t.least) ≡ n = omega (arith, ints, top.high, top.low, top.above, y, at) in
+    height-extent w (ClearToEndOfScreen default_color ∷ changes) ∙ e
 
 -- ---- whole numbers
 
@@ -39,32 +82,15 @@ clipped : (z : ℤ) (n m : ℕ) → z ≡ pos n -ℤ pos m → at_least_0 z ≡ 
 clipped (pos k) n m e = omega (arith, ints, e)
 clipped (negsuc k) n m e = omega (arith, ints, e)
 
-less_one : (n : ℕ) → suc n - 1 ≡ n
-less_one n = omega arith
-
-reached : (z : ℤ) (n : ℕ) → z ≡ pos n → at_least_0 z ≡ n
-reached z n e = ap at_least_0 e
-
 -- n cells from column 0 on end after the last column where they fill their last row
 behind_edge : (w n : ℕ) → 2 ≤ w → eqb (behind w n) w ≡ (ltb 0 n && eqb (n % w) 0)
 behind_edge w zero two = rw (ne_eqb 0 w (λ e. omega (arith, e))) refl
-behind_edge w (suc n) two = elim (cases_eq (n % w + 1) w) [
-  | inl e ↦
-      let full : (n / w + 1) * w + 0 ≡ suc n = omega (arith, add-mul (n / w) 1 w, one-mul w, div-add-mod' n w, e) in
-      let none : suc n % w ≡ 0 = ap (λ i. i % w) (sym full) ∙ mod-mul-add (n / w + 1) w 0 (omega arith) in
-      rw (ne_eqb (suc n) 0 (λ z. omega (arith, z)), lt-ltb 0 (suc n) (omega arith), none, less_one n) (eq-eqb (n % w + 1) w e)
-  | inr k ↦
-      let less : n % w + 1 < w = omega (arith, mod_below n w (omega arith), k) in
-      let same : n / w * w + (n % w + 1) ≡ suc n = omega (arith, div-add-mod' n w) in
-      let some : suc n % w ≡ n % w + 1 = ap (λ i. i % w) (sym same) ∙ mod-mul-add (n / w) w (n % w + 1) less in
-      rw (ne_eqb (suc n) 0 (λ z. omega (arith, z)), lt-ltb 0 (suc n) (omega arith), some, less_one n) (ne_eqb (n % w + 1) w k ∙ sym (ne_eqb (n % w + 1) 0 (λ z. omega (arith, z))))
-]
+behind_edge w (suc n) two =
+    let less_one : suc n - 1 ≡ n = omega arith in
+    let low = mod_below n w (omega arith) in
+    grind (arith, nat_tests, less_one, low, suc-mod n w, mod_self w, mod-eq_of_lt)
 
--- ---- the space and the line end that a painting adds
-
-space_is : glyphs (32 ∷ []) ≡ Cluster (32 ∷ []) 1 ∷ []
-unfolding glyphs
-space_is = refl
+-- ---- the line end that a painting adds
 
 pub crlf_is : glyphs (cr ∷ lf ∷ []) ≡ Cr ∷ Lf ∷ []
 unfolding glyphs
@@ -73,11 +99,45 @@ crlf_is = refl
 pub text-append : (x y : Batch) → list_all is_text x ≡ true → list_all is_text y ≡ true → list_all is_text (x ++ y) ≡ true
 text-append x y h k = list_all-append is_text x y ∙ and_from _ _ h k
 
-typed-append : {C : Type 0} (x y : List (List C)) → typed (x ++ y) ≡ typed x ++ typed y
-typed-append x y = map-append _ x y
+module _ {A C : Type 0} (pen : Pen A C) (w : ℕ) where
+  abbrev paper : C
+  paper = pen.paper default_color
 
-narrow-append : {C : Type 0} (w : ℕ) (x y : List (List C)) → list_all (is_narrow w) x ≡ true → list_all (is_narrow w) y ≡ true → list_all (is_narrow w) (x ++ y) ≡ true
-narrow-append w x y h k = list_all-append (is_narrow w) x y ∙ and_from _ _ h k
+  -- the empty screen on which a painting is measured
+  abbrev pub clear : PictureOf C
+  clear = step w (ClearBehind paper) (filled paper)
+
+  pub tracks-clear : (a : A) (changes : Batch) → list_all is_text changes ≡ true → Tracks w 0 (place_after_all w changes origin) (steps w (strokes_of pen a changes) clear)
+  tracks-clear a changes k = tracks-changes pen a w 0 changes origin clear k (record { x = refl; y = omega (arith, ints) })
+
+  all-blank : (i c : ℕ) → clear.cell i c ≡ paper
+  all-blank i c = elim (ltb 0 i || (eqb 0 i && leb 0 c)) as (λ (k : Bool). (if k then paper else paper) ≡ paper) [ true ↦ refl | false ↦ refl ]
+
+  pub stands-clear : (cells : List (List C)) → 2 ≤ w → list_all (is_narrow w) cells ≡ true
+      → Stands w (steps w (typed cells) clear) (length (laid paper w 0 cells)) (over 0 (laid paper w 0 cells) (λ i. paper))
+  stands-clear cells two narrow =
+      stands-as w _ (0 + length (laid paper w 0 cells)) _ _ _ (omega arith) (λ i. refl)
+      (typed-stands w paper cells clear 0 (λ i. paper) (omega (arith, two)) narrow (λ i h. refl) (record { at = λ r c h. all-blank r c; place = omega arith; within = omega arith }))
+
+  -- changes that type these cells
+  abbrev pub Types : A → Batch → List (List C) → Type 0
+  Types a changes cells = (list_all is_text changes ≡ true) × (strokes_of pen a changes ≡ typed cells) × (list_all (is_narrow w) cells ≡ true)
+
+  types-append : (a c : A) (x y : Batch) (k l : List (List C)) → kept_after_all pen a x ≡ c → Types a x k → Types c y l → Types a (x ++ y) (k ++ l)
+  types-append a c x y k l e t u = (
+    text-append x y t.0 u.0,
+    strokes-append pen a x y ∙ ap₂ (λ s d. s ++ strokes_of pen d y) t.1 e ∙ ap (λ s. typed k ++ s) u.1 ∙ sym (map-append _ k l),
+    list_all-append (is_narrow w) k l ∙ and_from _ _ t.2 u.2,
+  )
+
+  pub measured_types : (a : A) (changes : Batch) → list_all (types_fitting w) changes ≡ true → Types a changes (map (letter_cells pen) (letters_of pen a changes))
+  measured_types a changes k =
+      let is = measured-is w changes k in
+      let all = letters-typed pen w (letters_of pen a changes) (ap (list_all (fits_in w)) (glyphs-typed pen a changes) ∙ is.1) in
+      (is.0, strokes-letters pen a changes is.0 ∙ all.0, all.1)
+
+  tracks-types : (a : A) (changes : Batch) (cells : List (List C)) → Types a changes cells → Tracks w 0 (place_after_all w changes origin) (steps w (typed cells) clear)
+  tracks-types a changes cells t = subst (λ l. Tracks w 0 (place_after_all w changes origin) (steps w l clear)) t.1 (tracks-clear a changes t.0)
 
 module _ {A C : Type 0} (pen : Pen A C) (w : ℕ) (scene : Scene) (two : 2 ≤ w) (measured : IsMeasured w scene) where
   abbrev start : A
@@ -89,106 +149,57 @@ module _ {A C : Type 0} (pen : Pen A C) (w : ℕ) (scene : Scene) (two : 2 ≤ w
   abbrev b : C
   b = pen.paper default_color
 
-  -- ---- texts
-
-  prompt_text : list_all is_text scene.prompt ≡ true
-  prompt_text = measured-text w scene.prompt measured.prompt
-
-  line_text : list_all is_text scene.line ≡ true
-  line_text = measured-text w scene.line measured.line
-
-  abbrev head : Batch
-  head = AllAttributes default_attributes ∷ ((scene.prompt ++ AllAttributes default_attributes ∷ []) ++ scene.line)
-
-  head_text : list_all is_text head ≡ true
-  head_text =
-      text-append (scene.prompt ++ AllAttributes default_attributes ∷ []) scene.line
-      (text-append scene.prompt (AllAttributes default_attributes ∷ []) prompt_text refl) line_text
-
   -- ---- the prompt and the line
 
-  pub measured_typed : (a : A) (changes : Batch) → list_all (types_fitting w) changes ≡ true
-      → (strokes_of pen a changes ≡ typed (map (letter_cells pen) (letters_of pen a changes))) × (list_all (is_narrow w) (map (letter_cells pen) (letters_of pen a changes)) ≡ true)
-  measured_typed a changes k =
-      let fits : list_all (fits_in w) (map letter_glyph (letters_of pen a changes)) ≡ true = ap (list_all (fits_in w)) (glyphs-typed pen a changes) ∙ measured-glyphs w changes k in
-      let all = letters-typed pen w (letters_of pen a changes) fits in
-      (strokes-letters pen a changes (measured-text w changes k) ∙ all.0, all.1)
+  abbrev opening : Batch
+  opening = AllAttributes default_attributes ∷ (scene.prompt ++ AllAttributes default_attributes ∷ [])
 
-  abbrev prompt_cells : List (List C)
+  abbrev head : Batch
+  head = opening ++ scene.line
+
+  abbrev pub prompt_cells : List (List C)
   prompt_cells = map (letter_cells pen) (letters_of pen start scene.prompt)
 
-  abbrev line_cells : List (List C)
-  line_cells = map (letter_cells pen) (letters_of pen start scene.line)
-
-  abbrev head_cells : List (List C)
+  abbrev pub head_cells : List (List C)
   head_cells = map (letter_cells pen) (head_letters pen scene)
 
-  head_is : head_cells ≡ prompt_cells ++ line_cells
+  pub head_is : head_cells ≡ prompt_cells ++ map (letter_cells pen) (letters_of pen start scene.line)
   head_is = map-append (letter_cells pen) (letters_of pen start scene.prompt) (letters_of pen start scene.line)
 
-  -- the strokes of the prompt, from whatever is kept
-  prompt_strokes : (a : A) → strokes_of pen a (AllAttributes default_attributes ∷ scene.prompt ++ AllAttributes default_attributes ∷ []) ≡ typed prompt_cells
-  prompt_strokes a =
-      strokes-append pen start scene.prompt (AllAttributes default_attributes ∷ []) ∙ append-nil (strokes_of pen start scene.prompt)
-      ∙ (measured_typed start scene.prompt measured.prompt).0
+  -- from whatever is kept
+  pub prompt_types : (a : A) → Types pen w a opening prompt_cells
+  prompt_types a =
+      subst (Types pen w start (scene.prompt ++ AllAttributes default_attributes ∷ [])) (append-nil prompt_cells)
+      (types-append pen w start _ scene.prompt (AllAttributes default_attributes ∷ []) prompt_cells [] refl (measured_types pen w start scene.prompt measured.prompt) (refl, refl, refl))
 
   -- after the prompt default attributes are set again, and after the line those that it leaves
-  kept_prompt : (a : A) → kept_after_all pen a (AllAttributes default_attributes ∷ scene.prompt ++ AllAttributes default_attributes ∷ []) ≡ start
+  kept_prompt : (a : A) → kept_after_all pen a opening ≡ start
   kept_prompt a = kept-append pen start scene.prompt (AllAttributes default_attributes ∷ [])
 
   kept_head : (a : A) → kept_after_all pen a head ≡ ends_kept
-  kept_head a =
-      kept-append pen start (scene.prompt ++ AllAttributes default_attributes ∷ []) scene.line
-      ∙ ap (λ k. kept_after_all pen k scene.line) (kept_prompt start)
+  kept_head a = kept-append pen a opening scene.line ∙ ap (λ k. kept_after_all pen k scene.line) (kept_prompt a)
 
-  head_strokes : (a : A) → strokes_of pen a head ≡ typed head_cells
-  head_strokes a =
-      strokes-append pen start (scene.prompt ++ AllAttributes default_attributes ∷ []) scene.line
-      ∙ ap (λ l. l ++ strokes_of pen (kept_after_all pen start (scene.prompt ++ AllAttributes default_attributes ∷ [])) scene.line) (prompt_strokes a)
-      ∙ ap (λ k. typed prompt_cells ++ strokes_of pen k scene.line) (kept_prompt start)
-      ∙ ap (λ l. typed prompt_cells ++ l) (measured_typed start scene.line measured.line).0
-      ∙ sym (typed-append prompt_cells line_cells)
-      ∙ ap typed (sym head_is)
+  head_types : (a : A) → Types pen w a head head_cells
+  head_types a =
+      subst (Types pen w a head) (sym head_is)
+      (types-append pen w a start opening scene.line prompt_cells _ (kept_prompt a) (prompt_types a) (measured_types pen w start scene.line measured.line))
 
-  head_narrow : list_all (is_narrow w) head_cells ≡ true
-  head_narrow =
-      ap (list_all (is_narrow w)) head_is
-      ∙ narrow-append w prompt_cells line_cells (measured_typed start scene.prompt measured.prompt).1 (measured_typed start scene.line measured.line).1
+  pub tracks-prompt : Tracks w 0 (place_after_all w (before_line scene.prompt) origin) (steps w (typed prompt_cells) (clear pen w))
+  tracks-prompt = tracks-types pen w start opening prompt_cells (prompt_types start)
 
-  -- ---- where they end
+  -- ---- the blank at the edge
 
-  abbrev clear : PictureOf C
-  clear = step w (ClearBehind b) (filled b)
-
-  entered : Tracks w 0 origin clear
-  entered = record { x = refl; y = omega (arith, ints) }
-
-  pub tracks-prompt : Tracks w 0 (place_after_all w (before_line scene.prompt) origin) (steps w (typed prompt_cells) clear)
-  tracks-prompt =
-      subst (λ l. Tracks w 0 (place_after_all w (before_line scene.prompt) origin) (steps w l clear)) (prompt_strokes start)
-      (tracks-changes pen start w 0 (AllAttributes default_attributes ∷ scene.prompt ++ AllAttributes default_attributes ∷ []) origin clear
-      (text-append scene.prompt (AllAttributes default_attributes ∷ []) prompt_text refl) entered)
-
-  tracks-head : Tracks w 0 (place_after_all w head origin) (steps w (typed head_cells) clear)
-  tracks-head =
-      subst (λ l. Tracks w 0 (place_after_all w head origin) (steps w l clear)) (head_strokes start)
-      (tracks-changes pen start w 0 head origin clear head_text entered)
-
-  pub all-blank : (i c : ℕ) → clear.cell i c ≡ b
-  all-blank i c = by_behind (ltb 0 i || (eqb 0 i && leb 0 c))
-    where
-      by_behind : (k : Bool) → (if k then b else b) ≡ b
-      by_behind true = refl
-      by_behind false = refl
-
-  abbrev n : ℕ
+  abbrev pub n : ℕ
   n = length (laid b w 0 head_cells)
 
+  abbrev pub edged : Bool
+  edged = ltb 0 n && eqb (n % w) 0
+
   -- a blank is typed after the line just where it fills its last row
-  edge_is : eqb (place_after_all w head origin).x w ≡ (ltb 0 n && eqb (n % w) 0)
+  edge_is : eqb (place_after_all w head origin).x w ≡ edged
   edge_is =
-      let q = typed-ends b w 0 head_cells (λ i. b) clear (omega (arith, two)) head_narrow refl refl (λ i c h. all-blank i c) (λ i h. refl) in
-      ap (λ x. eqb x w) (sym tracks-head.x ∙ q.col) ∙ behind_edge w n two
+      let q = typed-ends b w 0 head_cells (λ i. b) (clear pen w) (omega (arith, two)) (head_types start).2 refl refl (λ i c h. all-blank pen w i c) (λ i h. refl) in
+      ap (λ x. eqb x w) (sym (tracks-types pen w start head head_cells (head_types start)).x ∙ q.col) ∙ behind_edge w n two
 
   abbrev edge : Batch
   edge = edge_space w (place_after_all w head origin)
@@ -199,45 +210,32 @@ module _ {A C : Type 0} (pen : Pen A C) (w : ℕ) (scene : Scene) (two : 2 ≤ w
   abbrev edge_cells : List (List C)
   edge_cells = map (letter_cells pen) (edge_letters pen w scene)
 
-  edge_strokes : strokes_of pen ends_kept edge ≡ typed edge_cells
-  edge_strokes =
-      ap (λ k. strokes_of pen ends_kept (if k then Text (32 ∷ []) ∷ [] else [])) edge_is
-      ∙ by_edge (ltb 0 n && eqb (n % w) 0)
+  edge_types : Types pen w ends_kept edge edge_cells
+  edge_types = subst (λ (k : Bool). Types pen w ends_kept (if k then Text (32 ∷ []) ∷ [] else []) edge_cells) (sym edge_is) (by_edge edged)
     where
-      by_edge : (k : Bool) → strokes_of pen ends_kept (if k then Text (32 ∷ []) ∷ [] else []) ≡ typed (map (letter_cells pen) (edge_if k))
-      by_edge true = ap (λ l. map (glyph_stroke pen ends_kept) l ++ []) space_is
-      by_edge false = refl
-
-  edge_narrow : list_all (is_narrow w) edge_cells ≡ true
-  edge_narrow = by_edge (ltb 0 n && eqb (n % w) 0)
-    where
-      by_edge : (k : Bool) → list_all (is_narrow w) (map (letter_cells pen) (edge_if k)) ≡ true
-      by_edge true = and_from _ _ (le-leb 1 w (omega (arith, two))) refl
-      by_edge false = refl
+      by_edge : (k : Bool) → Types pen w ends_kept (if k then Text (32 ∷ []) ∷ [] else []) (map (letter_cells pen) (edge_if k))
+      by_edge true = (refl, ap (λ l. map (glyph_stroke pen ends_kept) l ++ []) (plain_glyphs (32 ∷ []) refl), and_from _ _ (le-leb 1 w (omega (arith, two))) refl)
+      by_edge false = (refl, refl, refl)
 
   -- ---- the lower text
 
-  lower_strokes : (a : A) (lower : Lower) → IsMeasuredLower w lower
-      → (strokes_of pen a (lower_changes lower) ≡ broken (map (map (letter_cells pen)) (lower_letters pen start lower)))
+  lower_types : (a : A) (lower : Lower) → IsMeasuredLower w lower
+      → (list_all is_text (lower_changes lower) ≡ true)
+      × (strokes_of pen a (lower_changes lower) ≡ broken (map (map (letter_cells pen)) (lower_letters pen start lower)))
       × (list_all (list_all (is_narrow w)) (map (map (letter_cells pen)) (lower_letters pen start lower)) ≡ true)
-  lower_strokes a NoLower k = (refl, refl)
-  lower_strokes a (Preview elements) k =
+  lower_types a NoLower k = (refl, refl, refl)
+  lower_types a (Preview elements) k =
       let all = letters-broken pen w (letters_of pen start elements) (ap (λ l. list_all (list_all (fits_in w)) (lines_by (λ glyph. glyph) l)) (glyphs-typed pen start elements) ∙ k.1) in (
-        ap (λ l. map (glyph_stroke pen a) l ++ strokes_of pen start elements) crlf_is
-            ∙ ap (λ l. Return ∷ Feed ∷ l) (strokes-letters pen start elements k.0) ∙ all.0,
+        k.0,
+        cc (crlf_is, strokes-letters pen start elements k.0, all.0),
         all.1,
       )
-  lower_strokes a (Search text) k =
+  lower_types a (Search text) k =
       let all = letters-typed pen w (letters_under start (glyphs text)) (ap (list_all (fits_in w)) (text-glyphs start (glyphs text)) ∙ k.1) in (
-        ap (λ l. map (glyph_stroke pen start) l ++ []) k.0
-            ∙ ap (λ l. Return ∷ Feed ∷ (l ++ [])) (text-letters pen start (glyphs text) ∙ all.0),
+        refl,
+        cc (k.0, text-letters pen start (glyphs text), all.0),
         and_from _ _ all.1 refl,
       )
-
-  lower_text : (lower : Lower) → IsMeasuredLower w lower → list_all is_text (lower_changes lower) ≡ true
-  lower_text NoLower k = refl
-  lower_text (Preview elements) k = k.0
-  lower_text (Search text) k = refl
 
   -- ---- the whole painting
 
@@ -250,95 +248,55 @@ module _ {A C : Type 0} (pen : Pen A C) (w : ℕ) (scene : Scene) (two : 2 ≤ w
   abbrev low : Batch
   low = lower_changes scene.lower
 
-  pub text_is : writing.text ≡ head_cells ++ edge_cells
+  text_is : writing.text ≡ head_cells ++ edge_cells
   text_is = map-append (letter_cells pen) (head_letters pen scene) (edge_letters pen w scene)
 
-  text_narrow : list_all (is_narrow w) writing.text ≡ true
-  text_narrow = ap (list_all (is_narrow w)) text_is ∙ narrow-append w head_cells edge_cells head_narrow edge_narrow
+  text_types : (a : A) → Types pen w a (head ++ edge) writing.text
+  text_types a = subst (Types pen w a (head ++ edge)) (sym text_is) (types-append pen w a ends_kept head edge head_cells edge_cells (kept_head a) (head_types a) edge_types)
 
-  body_strokes : (a : A) → strokes_of pen a (head ++ (edge ++ low)) ≡ typed writing.text ++ broken writing.lower
+  abbrev body : Batch
+  body = head ++ (edge ++ low)
+
+  body_is : body ≡ (head ++ edge) ++ low
+  body_is = sym (append_assoc head edge low)
+
+  body_text : list_all is_text body ≡ true
+  body_text = ap (list_all is_text) body_is ∙ text-append (head ++ edge) low (text_types start).0 (lower_types start scene.lower measured.lower).0
+
+  body_strokes : (a : A) → strokes_of pen a body ≡ typed writing.text ++ broken writing.lower
   body_strokes a =
-      strokes-append pen a head (edge ++ low)
-      ∙ ap (λ l. l ++ strokes_of pen (kept_after_all pen a head) (edge ++ low)) (head_strokes a)
-      ∙ ap (λ k. typed head_cells ++ strokes_of pen k (edge ++ low)) (kept_head a)
-      ∙ ap (λ l. typed head_cells ++ l) (strokes-append pen ends_kept edge low
-      ∙ ap (λ l. l ++ strokes_of pen (kept_after_all pen ends_kept edge) low) edge_strokes
-      ∙ ap (λ l. typed edge_cells ++ l) (lower_strokes (kept_after_all pen ends_kept edge) scene.lower measured.lower).0)
-      ∙ sym (append_assoc (typed head_cells) (typed edge_cells) (broken writing.lower))
-      ∙ ap (λ l. l ++ broken writing.lower) (sym (typed-append head_cells edge_cells) ∙ ap typed (sym text_is))
+      let kept : A = kept_after_all pen a (head ++ edge) in
+      cc (body_is, strokes-append pen a (head ++ edge) low, (text_types a).1, (lower_types kept scene.lower measured.lower).1)
 
   -- a painting draws what is written, and then moves
   pub painting_is : (a : A) (x y : Position) → strokes_of pen a (shown_part w scene ++ CursorPosition x y ∷ []) ≡ drawing b writing ++ Move (led y) (led x) ∷ []
-  painting_is a x y =
-      strokes-append pen a (shown_part w scene) (CursorPosition x y ∷ [])
-      ∙ ap (λ l. (ClearBehind b ∷ l) ++ Move (led y) (led x) ∷ []) (body_strokes a)
+  painting_is a x y = cc (strokes-append pen a (shown_part w scene) (CursorPosition x y ∷ []), body_strokes a)
 
   -- ---- its moves
 
-  edge_text : list_all is_text edge ≡ true
-  edge_text = by_edge (eqb (place_after_all w head origin).x w)
-    where
-      by_edge : (e : Bool) → list_all is_text (if e then Text (32 ∷ []) ∷ [] else []) ≡ true
-      by_edge true = refl
-      by_edge false = refl
-
   tracks-all : Tracks w 0 (place_after_all w (shown_part w scene) origin) (steps w (drawing b writing) (filled b))
   tracks-all =
-      subst (λ l. Tracks w 0 (place_after_all w (shown_part w scene) origin) (steps w l clear)) (body_strokes start)
-      (tracks-changes pen start w 0 (head ++ (edge ++ low)) origin clear
-      (text-append head (edge ++ low) head_text (text-append edge low edge_text (lower_text scene.lower measured.lower))) entered)
+      subst (λ l. Tracks w 0 (place_after_all w (shown_part w scene) origin) (steps w l (clear pen w))) (body_strokes start)
+      (tracks-clear pen w start body body_text)
 
-  -- the picture after the prompt and the line, and how many cells the blank at the edge lays
-  abbrev q : PictureOf C
-  q = steps w (typed head_cells) clear
+  -- the text of the sheet is the prompt and the line, and the blank at the edge
+  abbrev pub edge_ink : C
+  edge_ink = pen.ink ends_kept (32 ∷ [])
 
-  q_stands : Stands w q n (over 0 (laid b w 0 head_cells) (λ i. b))
-  q_stands =
-      stands-as w q (0 + n) n _ _ (omega arith) (λ i. refl)
-      (typed-stands w b head_cells clear 0 (λ i. b) (omega (arith, two)) head_narrow (λ i h. refl) (record { at = λ r c h. all-blank r c; place = omega arith; within = omega arith }))
-
-  text_length : length sheet.text ≡ n + length (laid b w q.col edge_cells)
-  text_length =
-      let whole = typed-stands w b writing.text clear 0 (λ i. b) (omega (arith, two)) text_narrow (λ i h. refl) (record { at = λ r c h. all-blank r c; place = omega arith; within = omega arith }) in
-      let parts = typed-stands w b edge_cells q n (over 0 (laid b w 0 head_cells) (λ i. b)) (omega (arith, two)) edge_narrow
-      (λ i h. over-outside 0 (laid b w 0 head_cells) (λ j. b) i (inr (omega (arith, h)))) q_stands in
-      let same : steps w (typed writing.text) clear ≡ steps w (typed edge_cells) q =
-      ap (λ l. steps w l clear) (ap typed text_is ∙ typed-append head_cells edge_cells) ∙ steps-append w (typed head_cells) (typed edge_cells) clear in
-      let row = ap (λ t. t.row * w + t.col) same in
-      omega (arith, whole.place, parts.place, row)
+  pub sheet_text : sheet.text ≡ laid b w 0 head_cells ++ (if edged then edge_ink ∷ [] else [])
+  sheet_text =
+      let there : ℕ = (steps w (typed head_cells) (clear pen w)).col in
+      ap (laid b w 0) text_is ∙ laid-append w b head_cells edge_cells (clear pen w) ∙ grind (arith, nat_tests, laid-one b w there edge_ink)
 
   -- no text ends after the last column
   off_edge : length sheet.text % w ≡ 0 → length sheet.text ≡ 0
-  off_edge = by_edge (ltb 0 n && eqb (n % w) 0) refl
-    where
-      ends : q.col ≡ behind w n
-      ends = (typed-ends b w 0 head_cells (λ i. b) clear (omega (arith, two)) head_narrow refl refl (λ i c h. all-blank i c) (λ i h. refl)).col
-
-      one : (a : A) → length (laid b w w (letter_cells pen (record { kept = a; glyph = Cluster (32 ∷ []) 1 }) ∷ [])) ≡ 1
-      one a = rw (lt-leb (w + 1) w (omega arith)) (length-append (replicate (w - w) b) (pen.ink a (32 ∷ []) ∷ []) ∙ omega (arith, length-replicate (w - w) b))
-
-      by_edge : (k : Bool) → (ltb 0 n && eqb (n % w) 0) ≡ k → length sheet.text % w ≡ 0 → length sheet.text ≡ 0
-      by_edge true k e =
-          let last : q.col ≡ w = ends ∙ eqb-true (behind w n) w (behind_edge w n two ∙ k) in
-          let cell : length (laid b w q.col edge_cells) ≡ 1 =
-          ap (λ x. length (laid b w x edge_cells)) last ∙ ap (λ x. length (laid b w w (map (letter_cells pen) (edge_if x)))) k ∙ one ends_kept in
-          let more : length sheet.text ≡ n + 1 = text_length ∙ ap (λ x. n + x) cell in
-          let left : n % w ≡ 0 = eqb-true (n % w) 0 (and_parts (ltb 0 n) (eqb (n % w) 0) k).1 in
-          let full : n + 1 ≡ n / w * w + 1 = omega (arith, left, div-add-mod' n w) in
-          let rest : length sheet.text % w ≡ 1 = ap (λ i. i % w) (more ∙ full) ∙ mod-mul-add (n / w) w 1 (omega (arith, two)) in
-          absurd (omega (arith, rest, e))
-      by_edge false k e =
-          let none : length (laid b w q.col edge_cells) ≡ 0 = ap (λ x. length (laid b w q.col (map (letter_cells pen) (edge_if x)))) k in
-          let same : length sheet.text ≡ n = text_length ∙ omega (arith, none) in
-          elim (cases_lt 0 n) [
-            | inl some ↦
-                let rest : n % w ≡ 0 = ap (λ i. i % w) (sym same) ∙ e in
-                absurd (true≢false (sym (rw (lt-ltb 0 n some, eq-eqb (n % w) 0 rest) refl) ∙ k))
-            | inr empty ↦ omega (arith, same, empty)
-          ]
+  off_edge e =
+      let text : List C = laid b w 0 head_cells in
+      let long : length sheet.text ≡ n + (if edged then 1 else 0) = ap length sheet_text ∙ length-append text (if edged then edge_ink ∷ [] else []) ∙ grind (arith, nat_tests) in
+      grind (arith, nat_tests, long, e, div-add-mod' n w, mod-mul-add (n / w) w 1 (omega (arith, two)))
 
   drawn_all : Drawn w (0 + sheet_last_row w sheet) (last_length (length sheet.text) sheet.lower) (all_cells b w 0 sheet (filled b)) (steps w (drawing b writing) (filled b))
-  drawn_all = drawn b w 0 writing sheet (filled b) two refl refl refl text_narrow (lower_strokes start scene.lower measured.lower).1 off_edge
+  drawn_all = drawn b w 0 writing sheet (filled b) two refl refl refl (text_types start).2 (lower_types start scene.lower measured.lower).2 off_edge
 
   end_x : (place_after_all w (shown_part w scene) origin).x ≡ end_col w sheet
   end_x = sym tracks-all.x ∙ drawn_all.col
@@ -347,39 +305,37 @@ module _ {A C : Type 0} (pen : Pen A C) (w : ℕ) (scene : Scene) (two : 2 ≤ w
   end_y = omega (arith, ints, tracks-all.y, drawn_all.row)
 
   -- the cursor's place
-  pub prompt_place : (steps w (typed prompt_cells) clear).row * w + (steps w (typed prompt_cells) clear).col ≡ length (laid b w 0 prompt_cells)
-  prompt_place =
-      (typed-stands w b prompt_cells clear 0 (λ i. b) (omega (arith, two)) (measured_typed start scene.prompt measured.prompt).1 (λ i h. refl)
-      (record { at = λ r c h. all-blank r c; place = omega arith; within = omega arith })).place ∙ omega arith
+  abbrev behind_prompt : PictureOf C
+  behind_prompt = steps w (typed prompt_cells) (clear pen w)
+
+  at_is : behind_prompt.row * w + (behind_prompt.col + scene.column) ≡ sheet.at
+  at_is = omega (arith, (stands-clear pen w prompt_cells two (prompt_types start).2).place)
 
   pub cursor_y : (cursor_place w scene).y ≡ pos (sheet_cursor_row w sheet)
   cursor_y =
-      let t : PictureOf C = steps w (typed prompt_cells) clear in
-      let e : t.row * w + (t.col + scene.column) ≡ sheet.at = omega (arith, prompt_place) in
-      let q : t.row + (t.col + scene.column) / w ≡ sheet.at / w = sym (at_row w t.row (t.col + scene.column) (omega (arith, two))) ∙ ap (λ i. i / w) e in
+      let t : PictureOf C = behind_prompt in
+      let q : t.row + (t.col + scene.column) / w ≡ sheet.at / w = sym (at_row w t.row (t.col + scene.column) (omega (arith, two))) ∙ ap (λ i. i / w) at_is in
       let x : (t.col + scene.column) / w ≡ ((place_after_all w (before_line scene.prompt) origin).x + scene.column) / w = ap (λ i. (i + scene.column) / w) tracks-prompt.x in
       omega (arith, ints, tracks-prompt.y, q, x)
 
   pub cursor_x : (cursor_place w scene).x ≡ sheet.at % w
-  cursor_x =
-      let t : PictureOf C = steps w (typed prompt_cells) clear in
-      let e : t.row * w + (t.col + scene.column) ≡ sheet.at = omega (arith, prompt_place) in
-      ap (λ i. (i + scene.column) % w) (sym tracks-prompt.x) ∙ sym (at_col w t.row (t.col + scene.column)) ∙ ap (λ i. i % w) e
+  cursor_x = ap (λ i. (i + scene.column) % w) (sym tracks-prompt.x) ∙ sym (at_col w behind_prompt.row (behind_prompt.col + scene.column)) ∙ ap (λ i. i % w) at_is
 
   pub height_is : height w (shown_part w scene) ≡ sheet_last_row w sheet
-  height_is = measured_height w scene (prompt_text, (line_text, lower_text scene.lower measured.lower)) (sheet_last_row w sheet) end_y
+  height_is = measured_height w body body_text (sheet_last_row w sheet) end_y
 
   pub is_led : (cleared : Bool) → IsLed b (painting_of pen (record { scene = record scene { cleared = cleared }; cols = w }))
   is_led cleared = record {
     wide = two;
     laid = refl;
-    narrow = text_narrow;
-    narrow_below = (lower_strokes start scene.lower measured.lower).1;
+    narrow = (text_types start).2;
+    narrow_below = (lower_types start scene.lower measured.lower).2;
     off_edge = off_edge;
     to_row = λ r. clipped (pos r +ℤ ((cursor_place w scene).y -ℤ (place_after_all w (shown_part w scene) origin).y)) (r + sheet_cursor_row w sheet) (sheet_last_row w sheet)
         (omega (arith, ints, cursor_y, end_y));
-    to_col = reached (pos (end_col w sheet) +ℤ (pos (cursor_place w scene).x -ℤ pos (place_after_all w (shown_part w scene) origin).x)) (sheet.at % w)
-        (omega (arith, ints, end_x, cursor_x));
+    to_col =
+        let e : pos (end_col w sheet) +ℤ (pos (cursor_place w scene).x -ℤ pos (place_after_all w (shown_part w scene) origin).x) ≡ pos (sheet.at % w) = omega (arith, ints, end_x, cursor_x) in
+        ap at_least_0 e;
     back = λ r. clipped (pos r +ℤ neg_ℤ (cursor_place w scene).y) r (sheet_cursor_row w sheet) (omega (arith, ints, cursor_y));
     under = λ r. clipped (pos r +ℤ (pos (1 + height w (shown_part w scene)) -ℤ (cursor_place w scene).y)) (r + (sheet_last_row w sheet + 1)) (sheet_cursor_row w sheet)
         (omega (arith, ints, cursor_y, height_is));

@@ -1,20 +1,22 @@
 -- A sheet, drawn from column 0 of row s on a screen without a bottom, leaves its fresh painting.
 use Rattle.std.proofs.Common.{◌≡◌, ℕ, zero, suc, ◌+◌, ◌-◌, ◌*◌, ◌/◌, ◌%◌, max, ◌<◌, ◌≤◌, true, List, [], ◌∷◌, map, length, refl, sym, ap, ◌∙◌, subst, arith, ◌⊎◌, inl, inr, add-zero}
-use Rattle.std.specs.Prelude.{slice_index_or}
 use Rattle.std.specs.List.{list_all, sum_by}
-use Rattle.std.proofs.lemmas.Bool.{cases_eq, cases_lt, ne_eqb, cond-true, cond-false, and_parts, le-leb, lt-leb}
+use Rattle.std.proofs.lemmas.Bool.{cases_lt, ne_eqb, cond-true, cond-false, and_parts, le-leb, lt-leb}
 use Rattle.std.proofs.lemmas.Nat.{mul-le, div-add-mod', mod_below, div-mul-add, mod-mul-add}
 use Rattle.std.proofs.Math.Nat.{zero-div, add-mul, one-mul, add-div_right, div-eq_of_lt, max-eq_right}
 use Rattle.std.proofs.lemmas.List.Sums.{sum_by-cons}
 use Rattle.laws_screens.specs.Strokes.{PictureOf, cleared_in, steps}
-use Rattle.laws_screens.specs.Sheets.{Sheet, Writing, laid, laid_out, is_narrow, rows_of_line, sheet_text_row, sheet_last_row, sheet_cursor_row, last_length, behind, IsSheetCell, IsInText, AreLinesShown, IsInLowerLines, IsFreshSheet, typed, broken, drawing}
-use Rattle.laws_screens.proofs.LineOfCells.{at_row, at_col, below_row, over, all_from, over-outside, over-inside, Stands, cleared-stands, typed-stands, typed-col, typed-none, steps-append, line_of, line_of-at, line_of-stands}
+use Rattle.laws_screens.specs.Sheets.{Sheet, Writing, laid, laid_out, is_narrow, rows_of_line, sheet_text_row, sheet_last_row, sheet_cursor_row, last_length, behind, IsSheetCell, AreLinesShown, IsInLowerLines, IsFreshSheet, typed, broken, drawing}
+use Rattle.laws_screens.proofs.LineOfCells.{at_row, at_col, below_row, over, all_from, over-outside, over-inside, Stands, cleared-stands, typed-stands, typed-began, steps-append, line_of, line_of-at, line_of-stands}
 
 -- ---- division
 
 -- the place of cell k of a text from row s on
-cell_place : (w s k : ℕ) → (s + k / w) * w + k % w ≡ s * w + k
+pub cell_place : (w s k : ℕ) → (s + k / w) * w + k % w ≡ s * w + k
 cell_place w s k = omega (arith, add-mul s (k / w) w, div-add-mod' k w)
+
+window_place : (w s up k : ℕ) → (s + k / w + up) * w + k % w ≡ (s + up) * w + k
+window_place w s up k = let same : s + k / w + up ≡ s + up + k / w = omega arith in rw same (cell_place w (s + up) k)
 
 -- the rows of a line of q cells
 pub rows-is : (w q : ℕ) → 0 < w → max 1 ((q + w - 1) / w) ≡ 1 + (q - 1) / w
@@ -30,43 +32,38 @@ rows-is w (suc q) h =
 ends : (w r n row col : ℕ) → 0 < w → row * w + col ≡ r * w + n → col ≤ w → 0 < n → 0 < col → (row ≡ r + (n - 1) / w) × (col ≡ (n - 1) % w + 1)
 ends w r n row col h e k p c =
     let d : row * w + (col - 1) ≡ r * w + (n - 1) = omega arith in
-    let inside : col - 1 < w = omega arith in
-    let m : col - 1 ≡ (n - 1) % w = sym (mod-mul-add row w (col - 1) inside) ∙ ap (λ i. i % w) d ∙ at_col w r (n - 1) in
-    (sym (div-mul-add row w (col - 1) inside) ∙ ap (λ i. i / w) d ∙ at_row w r (n - 1) h, omega (arith, m))
-
-behind-some : (w n : ℕ) → 0 < n → behind w n ≡ (n - 1) % w + 1
-behind-some w n h = rw (ne_eqb n 0 (λ e. omega arith)) refl
+    let q = div-mul-add row w (col - 1) (omega arith) in
+    let m = mod-mul-add row w (col - 1) (omega arith) in
+    (cc (q, d, at_row w r (n - 1) h), omega (arith, m, ap (λ i. i % w) d, at_col w r (n - 1)))
 
 -- a text that does not end after the last column ends in the row of the cell after it
 same_row : (w n : ℕ) → 0 < w → (n % w ≡ 0 → n ≡ 0) → (n - 1) / w ≡ n / w
-same_row w n h off_edge = elim (cases_eq (n % w) 0) [
-  | inl e ↦ rw (off_edge e) refl
-  | inr k ↦
-      let d : n - 1 ≡ n / w * w + (n % w - 1) = omega (arith, div-add-mod' n w, k) in
-      ap (λ i. i / w) d ∙ div-mul-add (n / w) w (n % w - 1) (omega (arith, mod_below n w h))
-]
+same_row w n h off_edge = grind (arith, div-add-mod' n w, mod_below n w h, off_edge, div-mul-add (n / w) w (n % w - 1), zero-div w)
 
 -- a text ends above the row under its last one
 fresh_row : (w s n : ℕ) → 0 < w → s * w + n < (s + n / w + 1) * w
 fresh_row w s n h =
     omega (arith, add-mul (s + n / w) 1 w, add-mul s (n / w) w, one-mul w, div-add-mod' n w, mod_below n w h)
 
--- a place that is not a cell of a text from row a on is before it or after it
-not_of : (w a q r c : ℕ) → 2 ≤ w → c < w → ((k : ℕ) → k < q → IsSheetCell w a k r c → ⊥) → (r * w + c < a * w) ⊎ (a * w + q ≤ r * w + c)
-not_of w a q r c two h none_is =
+-- a place is a cell of n cells from row a on, or before them or after them
+pub cell_or_not : (w a n r c : ℕ) → 2 ≤ w → c < w → ((k : ℕ) × (k < n) × IsSheetCell w a k r c) ⊎ ((r * w + c < a * w) ⊎ (a * w + n ≤ r * w + c))
+cell_or_not w a n r c two h =
     elim (cases_lt (r * w + c) (a * w)) [
-      | inl b ↦ inl b
-      | inr b ↦ elim (cases_lt (r * w + c) (a * w + q)) [
-        | inr d ↦ inr d
+      | inl b ↦ inr (inl b)
+      | inr b ↦ elim (cases_lt (r * w + c) (a * w + n)) [
+        | inr d ↦ inr (inr d)
         | inl d ↦
             let k : ℕ = r * w + c - a * w in
             let e : r * w + c ≡ a * w + k = omega arith in
-            absurd (none_is k (omega arith) (
-              sym (div-mul-add r w c h) ∙ ap (λ i. i / w) e ∙ at_row w a k (omega arith),
-              sym (mod-mul-add r w c h) ∙ ap (λ i. i % w) e ∙ at_col w a k,
-            ))
+            let row : r ≡ a + k / w = sym (div-mul-add r w c h) ∙ ap (λ i. i / w) e ∙ at_row w a k (omega arith) in
+            let col : c ≡ k % w = sym (mod-mul-add r w c h) ∙ ap (λ i. i % w) e ∙ at_col w a k in
+            inl (k, omega arith, (row, col))
       ]
     ]
+
+-- one that is none of these in a window that begins up rows further down
+not_of : (w up a n r c : ℕ) → 2 ≤ w → c < w → ((k : ℕ) × (k < n) × IsSheetCell w a k r c → ⊥) → ((r + up) * w + c < (a + up) * w) ⊎ ((a + up) * w + n ≤ (r + up) * w + c)
+not_of w up a n r c two h none = elim (cell_or_not w (a + up) n (r + up) c two h) [ inl i ↦ absurd (none (i.0, i.1, (omega (arith, i.2.0), i.2.1))) | inr out ↦ out ]
 
 module _ {C : Type 0} where
   -- ---- lines
@@ -86,19 +83,14 @@ module _ {C : Type 0} where
       let all : Stands w (steps w (typed line) t) (r * w + length (laid b w 0 line)) (over (r * w) (laid b w 0 line) f) =
       subst (λ x. Stands w (steps w (typed line) t) (r * w + length (laid b w x line)) (over (r * w) (laid b w x line) f)) col
       (typed-stands w b line t (r * w) f h narrow blank stands) in
-      elim (cases_lt 0 (length (laid b w 0 line))) [
-        | inl some ↦
-            let past : 0 < (steps w (typed line) t).col = typed-col w b line t narrow (omega (arith, col)) (inr (rw col some)) in
-            let e = ends w r (length (laid b w 0 line)) _ _ h all.place all.within some past in
-            record { row = e.0; col = e.1 ∙ sym (behind-some w (length (laid b w 0 line)) some); cells = all.at }
-        | inr none ↦
-            let empty : length (laid b w 0 line) ≡ 0 = omega (arith, none) in
-            let still = typed-none w b line t (omega (arith, col)) (rw col empty) in
-            record {
-              row = still.0 ∙ row ∙ rw empty (omega (arith, zero-div w));
-              col = still.1 ∙ col ∙ rw empty refl;
-              cells = all.at;
-            }
+      elim (typed-began w r line t narrow (omega (arith, col)) (inl (row, col))) [
+        | inl still ↦
+            let none : length (laid b w 0 line) ≡ 0 = omega (arith, all.place, ap (λ i. i * w) still.0, still.1) in
+            record { row = still.0 ∙ rw none (omega (arith, zero-div w)); col = still.1 ∙ rw none refl; cells = all.at }
+        | inr past ↦
+            let some : 0 < length (laid b w 0 line) = omega (arith, all.place, mul-le r w _ w past.0 (omega arith), past.1) in
+            let e = ends w r (length (laid b w 0 line)) _ _ h all.place all.within some past.1 in
+            record { row = e.0; col = e.1 ∙ sym (rw (ne_eqb (length (laid b w 0 line)) 0 (λ e. omega (arith, e, some))) refl); cells = all.at }
       ]
 
   -- lines one after the other, from row r on
@@ -152,30 +144,6 @@ module _ {C : Type 0} where
   abbrev pub all_cells : C → ℕ → ℕ → Sheet C → PictureOf C → ℕ → C
   all_cells b w s sheet before i = over_lines w (s + sheet_text_row w sheet + 1) sheet.lower (cells_of b w s sheet.text before) i
 
-  -- b from row s on is left behind it
-  behind_text : (b : C) (w s : ℕ) (text : List C) (before : PictureOf C) → 0 < w → (i : ℕ) → (s + length text / w + 1) * w ≤ i → cells_of b w s text before i ≡ b
-  behind_text b w s text before h i k =
-      over-outside (s * w) text (base b w s before) i (inr (omega (arith, fresh_row w s (length text) h, k)))
-      ∙ cond-true _ _ _ (le-leb (s * w) i (omega (arith, fresh_row w s (length text) h, k)))
-
-  drawn_out : (b : C) (w s : ℕ) (writing : Writing C) (at : ℕ) (before : PictureOf C) → 2 ≤ w → before.row ≡ s → before.col ≡ 0
-      → list_all (is_narrow w) writing.text ≡ true → list_all (list_all (is_narrow w)) writing.lower ≡ true
-      → let sheet = laid_out b w writing at in
-      (length sheet.text % w ≡ 0 → length sheet.text ≡ 0)
-      → Drawn w (s + sheet_last_row w sheet) (last_length (length sheet.text) sheet.lower) (all_cells b w s sheet before) (steps w (drawing b writing) before)
-  drawn_out b w s writing at before two row col narrow below off_edge =
-      let sheet : Sheet C = laid_out b w writing at in
-      let clear : PictureOf C = record before { cell = cleared_in before.cell before.row before.col b } in
-      let start : Stands w clear (s * w) (base b w s before) =
-      cleared-stands w b before (s * w) (line_of w before) (omega (arith, col)) (line_of-stands w s before (omega arith) row col) in
-      let one = typed-ends b w s writing.text (base b w s before) clear (omega arith) narrow row col start.at (λ i k. cond-true _ _ _ (le-leb (s * w) i k)) in
-      let text : Drawn w (s + sheet_text_row w sheet) (length sheet.text) (cells_of b w s sheet.text before) (steps w (typed writing.text) clear) =
-      record { row = one.row ∙ ap (λ i. s + i) (same_row w (length sheet.text) (omega arith) off_edge); col = one.col; cells = one.cells } in
-      let all = broken-ends b w (s + sheet_text_row w sheet) (length sheet.text) writing.lower (cells_of b w s sheet.text before) (steps w (typed writing.text) clear) two below
-      (behind_text b w s sheet.text before (omega arith)) text in
-      Drawn-same w _ _ (last_length (length sheet.text) sheet.lower) _ _ _ _ (omega arith) refl
-      (steps-append w (typed writing.text) (broken writing.lower) clear) all
-
   pub drawn : (b : C) (w s : ℕ) (writing : Writing C) (sheet : Sheet C) (before : PictureOf C) → 2 ≤ w → before.row ≡ s → before.col ≡ 0
       → sheet ≡ laid_out b w writing sheet.at
       → list_all (is_narrow w) writing.text ≡ true → list_all (list_all (is_narrow w)) writing.lower ≡ true
@@ -183,7 +151,24 @@ module _ {C : Type 0} where
       → Drawn w (s + sheet_last_row w sheet) (last_length (length sheet.text) sheet.lower) (all_cells b w s sheet before) (steps w (drawing b writing) before)
   drawn b w s writing sheet before two row col is narrow below off_edge =
       subst (λ x. (length x.text % w ≡ 0 → length x.text ≡ 0) → Drawn w (s + sheet_last_row w x) (last_length (length x.text) x.lower) (all_cells b w s x before) (steps w (drawing b writing) before))
-      (sym is) (drawn_out b w s writing sheet.at before two row col narrow below) off_edge
+      (sym is) out off_edge
+    where
+      made : Sheet C
+      made = laid_out b w writing sheet.at
+
+      out : (length made.text % w ≡ 0 → length made.text ≡ 0) → Drawn w (s + sheet_last_row w made) (last_length (length made.text) made.lower) (all_cells b w s made before) (steps w (drawing b writing) before)
+      out off_edge =
+          let clear : PictureOf C = record before { cell = cleared_in before.cell before.row before.col b } in
+          let start : Stands w clear (s * w) (base b w s before) =
+          cleared-stands w b before (s * w) (line_of w before) (omega (arith, col)) (line_of-stands w s before (omega arith) row col) in
+          let one = typed-ends b w s writing.text (base b w s before) clear (omega arith) narrow row col start.at (λ i k. cond-true _ _ _ (le-leb (s * w) i k)) in
+          let text : Drawn w (s + sheet_text_row w made) (length made.text) (cells_of b w s made.text before) (steps w (typed writing.text) clear) =
+          record { row = one.row ∙ ap (λ i. s + i) (same_row w (length made.text) (omega arith) off_edge); col = one.col; cells = one.cells } in
+          let all = broken-ends b w (s + sheet_text_row w made) (length made.text) writing.lower (cells_of b w s made.text before) (steps w (typed writing.text) clear) two below
+          (λ i k. let past : s * w + length made.text ≤ i = omega (arith, fresh_row w s (length made.text) (omega arith), k) in
+          over-outside (s * w) made.text (base b w s before) i (inr past) ∙ cond-true _ _ _ (le-leb (s * w) i (omega (arith, past)))) text in
+          Drawn-same w _ _ (last_length (length made.text) made.lower) _ _ _ _ (omega arith) refl
+          (steps-append w (typed writing.text) (broken writing.lower) clear) all
 
   -- ---- the fresh painting
 
@@ -192,57 +177,54 @@ module _ {C : Type 0} where
   lines-before w r (line ∷ more) f i two h =
       lines-before w (r + rows_of_line w line) more (over (r * w) line f) i two (omega (arith, fits w r line two)) ∙ over-outside (r * w) line f i (inl h)
 
-  lines-shown : (b : C) (w r : ℕ) (lines : List (List C)) (f : ℕ → C) (t : PictureOf C) → 2 ≤ w
-      → ((i c : ℕ) → c < w → t.cell i c ≡ over_lines w r lines f (i * w + c)) → AreLinesShown w r b lines t
-  lines-shown b w r [] f t two h = tt
-  lines-shown b w r (line ∷ more) f t two h = (
-    λ k q. h (r + k / w) (k % w) (mod_below k w (omega arith))
-        ∙ ap (over_lines w (r + rows_of_line w line) more (over (r * w) line f)) (cell_place w r k)
-        ∙ lines-before w (r + rows_of_line w line) more (over (r * w) line f) (r * w + k) two (omega (arith, fits w r line two))
-        ∙ over-inside b (r * w) line f k q,
-    lines-shown b w (r + rows_of_line w line) more (over (r * w) line f) t two h,
-  )
+  -- in a window that begins up rows further down
+  lines-shown : (b : C) (w up r : ℕ) (lines : List (List C)) (f : ℕ → C) (t : PictureOf C) → 2 ≤ w
+      → ((i c : ℕ) → c < w → t.cell i c ≡ over_lines w (r + up) lines f ((i + up) * w + c)) → AreLinesShown w r b lines t
+  lines-shown b w up r [] f t two h = tt
+  lines-shown b w up r (line ∷ more) f t two h =
+      let g : ℕ → C = over ((r + up) * w) line f in (
+        λ k q. h (r + k / w) (k % w) (mod_below k w (omega arith))
+            ∙ ap (over_lines w (r + up + rows_of_line w line) more g) (window_place w r up k)
+            ∙ lines-before w (r + up + rows_of_line w line) more g ((r + up) * w + k) two (omega (arith, fits w (r + up) line two))
+            ∙ over-inside b ((r + up) * w) line f k q,
+        lines-shown b w up (r + rows_of_line w line) more g t two (λ i c q. h i c q ∙ ap (λ n. over_lines w n more g ((i + up) * w + c)) (omega arith)),
+      )
 
-  lines-rest : (w r : ℕ) (lines : List (List C)) (f : ℕ → C) (i c : ℕ) → 2 ≤ w → c < w → (IsInLowerLines w r lines i c → ⊥)
-      → over_lines w r lines f (i * w + c) ≡ f (i * w + c)
-  lines-rest w r [] f i c two h not = refl
-  lines-rest w r (line ∷ more) f i c two h not =
-      lines-rest w (r + rows_of_line w line) more (over (r * w) line f) i c two h (λ q. not (inr q))
-      ∙ over-outside (r * w) line f (i * w + c) (not_of w r (length line) i c two h (λ k p q. not (inl (k, p, q))))
+  lines-rest : (w up r : ℕ) (lines : List (List C)) (f : ℕ → C) (i c : ℕ) → 2 ≤ w → c < w → (IsInLowerLines w r lines i c → ⊥)
+      → over_lines w (r + up) lines f ((i + up) * w + c) ≡ f ((i + up) * w + c)
+  lines-rest w up r [] f i c two h none = refl
+  lines-rest w up r (line ∷ more) f i c two h none =
+      ap (λ n. over_lines w n more (over ((r + up) * w) line f) ((i + up) * w + c)) (omega arith)
+      ∙ lines-rest w up (r + rows_of_line w line) more (over ((r + up) * w) line f) i c two h (λ q. none (inr q))
+      ∙ over-outside ((r + up) * w) line f ((i + up) * w + c) (not_of w up r (length line) i c two h (λ q. none (inl q)))
 
-  module _ (b : C) (w s : ℕ) (sheet : Sheet C) (before : PictureOf C) (two : 2 ≤ w) where
-    shown-cells : (k : ℕ) → k < length sheet.text → all_cells b w s sheet before ((s + k / w) * w + k % w) ≡ slice_index_or sheet.text k b
-    shown-cells k h =
-        ap (all_cells b w s sheet before) (cell_place w s k)
-        ∙ lines-before w (s + sheet_text_row w sheet + 1) sheet.lower (cells_of b w s sheet.text before) (s * w + k) two
-        (omega (arith, fresh_row w s (length sheet.text) (omega arith)))
-        ∙ over-inside b (s * w) sheet.text (base b w s before) k h
+  pub above-cells : (b : C) (w s : ℕ) (sheet : Sheet C) (before : PictureOf C) (r c : ℕ) → 2 ≤ w → r < s → c < w → all_cells b w s sheet before (r * w + c) ≡ before.cell r c
+  above-cells b w s sheet before r c two a h =
+      let up : r * w + c < s * w = below_row w r c s a h in
+      lines-before w _ sheet.lower (cells_of b w s sheet.text before) (r * w + c) two (omega (arith, fresh_row w s (length sheet.text) (omega arith)))
+      ∙ over-outside (s * w) sheet.text (base b w s before) (r * w + c) (inl up)
+      ∙ cond-false _ _ _ (lt-leb (s * w) (r * w + c) up)
+      ∙ line_of-at w before r c h
 
-    rest-cells : (r c : ℕ) → s ≤ r → c < w → (IsInText w s sheet.text r c → ⊥)
-        → (IsInLowerLines w (s + sheet_text_row w sheet + 1) sheet.lower r c → ⊥) → all_cells b w s sheet before (r * w + c) ≡ b
-    rest-cells r c a h no1 no2 =
-        let first = not_of w s (length sheet.text) r c two h (λ k p q. no1 (k, p, q)) in
-        let past : s * w ≤ r * w + c = omega (arith, mul-le s w r w a (omega arith)) in
-        let out : s * w + length sheet.text ≤ r * w + c = elim first [ inl x ↦ absurd (omega arith) | inr x ↦ x ] in
-        lines-rest w _ sheet.lower (cells_of b w s sheet.text before) r c two h no2
-        ∙ over-outside (s * w) sheet.text (base b w s before) (r * w + c) (inr out)
-        ∙ cond-true _ _ _ (le-leb (s * w) (r * w + c) past)
-
-    pub above-cells : (r c : ℕ) → r < s → c < w → all_cells b w s sheet before (r * w + c) ≡ before.cell r c
-    above-cells r c a h =
-        let up : r * w + c < s * w = below_row w r c s a h in
-        lines-before w _ sheet.lower (cells_of b w s sheet.text before) (r * w + c) two (omega (arith, fresh_row w s (length sheet.text) (omega arith)))
-        ∙ over-outside (s * w) sheet.text (base b w s before) (r * w + c) (inl up)
-        ∙ cond-false _ _ _ (lt-leb (s * w) (r * w + c) up)
-        ∙ line_of-at w before r c h
-
-    -- a picture with these cells and the cursor at its index
-    pub fresh : (t : PictureOf C) → ((r c : ℕ) → c < w → t.cell r c ≡ all_cells b w s sheet before (r * w + c))
-        → t.row ≡ s + sheet_cursor_row w sheet → t.col ≡ sheet.at % w → IsFreshSheet w s b sheet t
-    fresh t cells row col = record {
-      shown = λ k h. cells (s + k / w) (k % w) (mod_below k w (omega arith)) ∙ shown-cells k h;
-      below = lines-shown b w (s + sheet_text_row w sheet + 1) sheet.lower (cells_of b w s sheet.text before) t two cells;
-      rest = λ r c i h p q. cells r c h ∙ rest-cells r c i h p q;
-      row = row;
-      col = col;
-    }
+  -- a window with these cells, and the cursor at its index
+  pub fresh : (b : C) (w s up : ℕ) (sheet : Sheet C) (before t : PictureOf C) → 2 ≤ w → ((r c : ℕ) → c < w → t.cell r c ≡ all_cells b w (s + up) sheet before ((r + up) * w + c))
+      → t.row ≡ s + sheet_cursor_row w sheet → t.col ≡ sheet.at % w → IsFreshSheet w s b sheet t
+  fresh b w s up sheet before t two cells row col =
+      let low : ℕ = s + sheet_text_row w sheet + 1 in
+      let f : ℕ → C = cells_of b w (s + up) sheet.text before in
+      let same : s + up + sheet_text_row w sheet + 1 ≡ low + up = omega arith in
+      let lines : (r c : ℕ) → c < w → t.cell r c ≡ over_lines w (low + up) sheet.lower f ((r + up) * w + c) =
+      λ r c h. cells r c h ∙ ap (λ n. over_lines w n sheet.lower f ((r + up) * w + c)) same in
+      record {
+        shown = λ k h. cells (s + k / w) (k % w) (mod_below k w (omega arith)) ∙ ap (all_cells b w (s + up) sheet before) (window_place w s up k)
+            ∙ lines-before w (s + up + sheet_text_row w sheet + 1) sheet.lower f ((s + up) * w + k) two (omega (arith, fresh_row w (s + up) (length sheet.text) (omega arith)))
+            ∙ over-inside b ((s + up) * w) sheet.text (base b w (s + up) before) k h;
+        below = lines-shown b w up low sheet.lower f t two lines;
+        rest = λ r c from h none1 none2.
+            let past : (s + up) * w ≤ (r + up) * w + c = omega (arith, mul-le (s + up) w (r + up) w (omega (arith, from)) (omega arith)) in
+            let out : (s + up) * w + length sheet.text ≤ (r + up) * w + c = elim (not_of w up s (length sheet.text) r c two h none1) [ inl x ↦ absurd (omega arith) | inr x ↦ x ] in
+            lines r c h ∙ lines-rest w up low sheet.lower f r c two h none2
+            ∙ over-outside ((s + up) * w) sheet.text (base b w (s + up) before) ((r + up) * w + c) (inr out) ∙ cond-true _ _ _ (le-leb ((s + up) * w) ((r + up) * w + c) past);
+        row = row;
+        col = col;
+      }

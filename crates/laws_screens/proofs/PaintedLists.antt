@@ -1,22 +1,20 @@
 -- Lists of paintings, one over the other.
-use Rattle.std.proofs.Common.{◌≡◌, ℕ, ◌+◌, ◌-◌, ◌≤◌, ◌<◌, min, Bool, true, false, Option, Some, None, List, [], ◌∷◌, if◌then◌else◌, inl, inr, refl, ap, ◌∙◌, arith}
-use Rattle.std.proofs.lemmas.Bool.{cases_lt, lt-ltb, le-ltb}
+use Rattle.std.proofs.Common.{◌≡◌, ℕ, ◌+◌, ◌-◌, ◌≤◌, ◌<◌, min, Bool, true, false, Option, Some, None, List, [], ◌∷◌, if◌then◌else◌, inl, inr, refl, sym, subst, ap, ◌∙◌, arith}
+use Rattle.std.proofs.lemmas.Bool.Decides.{nat_tests}
+use Rattle.std.proofs.lemmas.Bool.{cases_lt, le-ltb}
 use Rattle.std.proofs.Math.Nat.{min-eq_right}
 use Rattle.laws_screens.specs.Strokes.{PictureOf, filled, step, scrolled, steps_on, InSight, resized, narrowest}
 use Rattle.laws_screens.specs.Strokes.Stroke.{Move}
 use Rattle.laws_screens.specs.Sheets.{Sheet, sheet_cursor_row, IsFreshSheet, raised_row}
 use Rattle.laws_screens.specs.Paintings.{SheetPainting, IsLed, IsFit, painting_strokes, begun, paint_all, top_row, cols_of, last_painting, AreShownOver}
 use Rattle.laws_screens.proofs.PaintedSheets.{Painted, painted}
-
-in-sight : (rows : Option ℕ) (s : ℕ) → InSight rows s → InSight rows 0
-in-sight None s h = tt
-in-sight (Some h) s low = omega (arith, low)
+use Rattle.laws_screens.proofs.SeenRows.{Sees, sees-same, sees-still}
 
 narrowest-le : (w : ℕ) (more : List ℕ) → narrowest w more ≤ w
 narrowest-le w [] = omega arith
 narrowest-le w (x ∷ more) = omega arith
 
-in-sight-below : (rows : Option ℕ) (s s' : ℕ) → s' ≤ s → InSight rows s → InSight rows s'
+pub in-sight-below : (rows : Option ℕ) (s s' : ℕ) → s' ≤ s → InSight rows s → InSight rows s'
 in-sight-below None s s' le h = tt
 in-sight-below (Some h) s s' le low = omega (arith, le, low)
 
@@ -42,23 +40,9 @@ module _ {C : Type 0} where
   painted_from rows b p s None t fit inside k = painted rows b p s t fit inside k.0 k.1
   painted_from rows b p s (Some back) t fit inside k =
       let m : PictureOf C = step p.cols (Move back (λ c. 0)) t in
-      let q = painted rows b p s (scrolled rows m) fit inside (still-row rows s m inside k) (still-col rows m ∙ min-eq_right (omega arith)) in
-      record {
-        fresh = q.fresh;
-        above = λ r c h i. q.above r c h i ∙ still-cell rows s m inside k (r + (s - raised_row rows p.cols s p.sheet)) c;
-      }
-    where
-      still-row : (rows : Option ℕ) (s : ℕ) (m : PictureOf C) → InSight rows s → m.row ≡ s → (scrolled rows m).row ≡ s
-      still-row None s m low e = e
-      still-row (Some h) s m low e = omega (arith, low, e)
-
-      still-col : (rows : Option ℕ) (m : PictureOf C) → (scrolled rows m).col ≡ m.col
-      still-col None m = refl
-      still-col (Some h) m = refl
-
-      still-cell : (rows : Option ℕ) (s : ℕ) (m : PictureOf C) → InSight rows s → m.row ≡ s → (r c : ℕ) → (scrolled rows m).cell r c ≡ m.cell r c
-      still-cell None s m low e r c = refl
-      still-cell (Some h) s m low e r c = ap (λ y. m.cell y c) (omega (arith, low, e))
+      let still : Sees 0 (scrolled rows m) m = sees-still rows 0 m m (subst (λ r. InSight rows r) (sym k) inside) (sees-same m) in
+      let q = painted rows b p s (scrolled rows m) fit inside (omega (arith, still.row, k)) (sym still.col ∙ min-eq_right (omega arith)) in
+      record { fresh = q.fresh; above = λ r c h i. q.above r c h i ∙ still.cell (r + (s - raised_row rows p.cols s p.sheet)) c ∙ ap (λ y. t.cell y c) (omega arith) }
 
   -- a screen that is made wider or narrower leaves the cursor there
   resized-before : (cuts : Bool) (b : C) (v w s : ℕ) (before : Option (ℕ → ℕ)) (t : PictureOf C) → IsBefore false s before t → IsBefore false s before (resized cuts b v w t)
@@ -86,7 +70,7 @@ module _ {C : Type 0} where
           → Painted p.cols b s (raised_row rows p.cols (if cleared then 0 else s) p.sheet) p.sheet (resized cuts b v p.cols t)
           (steps_on rows p.cols (painting_strokes b before p) (if cleared then resized cuts b p.cols p.cols (filled b) else resized cuts b v p.cols t))
       by_cleared true k =
-          let q = painted_from rows b p 0 before (resized cuts b p.cols p.cols (filled b)) fit (in-sight rows s inside) (filled-before cuts b p.cols before s t k) in
+          let q = painted_from rows b p 0 before (resized cuts b p.cols p.cols (filled b)) fit (in-sight-below rows s 0 (omega arith) inside) (filled-before cuts b p.cols before s t k) in
           record { fresh = q.fresh; above = λ r c h i. absurd (omega (arith, raised-le rows p.cols 0 p.sheet)) }
       by_cleared false k = painted_from rows b p s before (resized cuts b v p.cols t) fit inside (resized-before cuts b v p.cols s before t k)
 
@@ -94,68 +78,59 @@ module _ {C : Type 0} where
 
   pub top-le : (rows : Option ℕ) (s : ℕ) (paintings : List (SheetPainting C)) → top_row rows s paintings ≤ s
   top-le rows s [] = omega arith
-  top-le rows s (p ∷ more) = omega (arith, first p.cleared, top-le rows (raised_row rows p.cols (if p.cleared then 0 else s) p.sheet) more)
-    where
-      first : (cleared : Bool) → raised_row rows p.cols (if cleared then 0 else s) p.sheet ≤ s
-      first true = omega (arith, raised-le rows p.cols 0 p.sheet)
-      first false = raised-le rows p.cols s p.sheet
+  top-le rows s (p ∷ more) =
+      let start : (if p.cleared then 0 else s) ≤ s = grind (arith, nat_tests) in
+      omega (arith, start, raised-le rows p.cols (if p.cleared then 0 else s) p.sheet, top-le rows (raised_row rows p.cols (if p.cleared then 0 else s) p.sheet) more)
 
   resized-kept : (cuts : Bool) (b : C) (v w : ℕ) (t : PictureOf C) (r c : ℕ) → c < v → c < w → (resized cuts b v w t).cell r c ≡ t.cell r c
-  resized-kept false b v w t r c h k = refl
-  resized-kept true b v w t r c h k = rw (lt-ltb c (min v w) (omega arith)) refl
+  resized-kept cuts b v w t r c h k = grind (arith, nat_tests)
 
   resized-cut : (b : C) (v w : ℕ) (t : PictureOf C) (r c : ℕ) → v ≤ c → (resized true b v w t).cell r c ≡ b
   resized-cut b v w t r c h = rw (le-ltb c (min v w) (omega arith)) refl
-
-  -- from row e to row s by the first one, and to row s' by the others
-  joined : (cuts : Bool) (b : C) (v e s s' : ℕ) (p last : SheetPainting C) (cols : List ℕ) (t u after : PictureOf C) → s ≤ e → s' ≤ s
-      → Painted p.cols b e s p.sheet (resized cuts b v p.cols t) u
-      → AreShownOver cuts b (narrowest p.cols cols) s s' last u after → AreShownOver cuts b (narrowest v (p.cols ∷ cols)) e s' last t after
-  joined cuts b v e s s' p last cols t u after le le' one rest = record {
-    fresh = rest.fresh;
-    above = λ r c h i k.
-        let inside : c < p.cols = omega (arith, narrowest-le p.cols cols) in
-        rest.above r c h i (omega arith) ∙ one.above (r + (s - s')) c (omega arith) inside
-        ∙ resized-kept cuts b v p.cols t (r + (s - s') + (e - s)) c (omega arith) inside ∙ ap (λ y. t.cell y c) (omega arith);
-    cut = λ is r c h i k. elim (cases_lt c (narrowest p.cols cols)) [
-      | inl near ↦
-          let inside : c < p.cols = omega (arith, narrowest-le p.cols cols) in
-          rest.above r c h i near ∙ one.above (r + (s - s')) c (omega arith) inside
-          ∙ ap (λ x. (resized x b v p.cols t).cell (r + (s - s') + (e - s)) c) is
-          ∙ resized-cut b v p.cols t (r + (s - s') + (e - s)) c (omega arith)
-      | inr far ↦ rest.cut is r c h i far
-    ];
-  }
 
   -- where the painting before left the cursor, the next one begins
   left-before : (b : C) (s : ℕ) (p : SheetPainting C) (cleared : Bool) (t : PictureOf C) → IsLed b p → t.row ≡ s + sheet_cursor_row p.cols p.sheet → IsBefore cleared s (Some p.back) t
   left-before b s p true t led row = led.back 0 ∙ omega arith
   left-before b s p false t led row = led.back t.row ∙ omega (arith, row)
 
-  -- the paintings over a fresh one
-  painted_over : (rows : Option ℕ) (cuts : Bool) (b : C) (s : ℕ) (p : SheetPainting C) (more : List (SheetPainting C)) (t : PictureOf C) → IsLed b p → AreFit rows b more → InSight rows s → IsFreshSheet p.cols s b p.sheet t
-      → AreShownOver cuts b (narrowest p.cols (cols_of more)) s (top_row rows s more) (last_painting p more) t (paint_all rows cuts b p.cols (Some p.back) more t)
-  painted_over rows cuts b s p [] t led fit inside fresh = record {
-    fresh = fresh;
-    above = λ r c h i k. ap (λ y. t.cell y c) (omega arith);
-    cut = λ is r c h i k. absurd (omega arith);
-  }
-  painted_over rows cuts b s p (next ∷ more) t led fit inside fresh =
-      let s1 : ℕ = raised_row rows next.cols (if next.cleared then 0 else s) next.sheet in
-      let le : s1 ≤ s = top-le rows s (next ∷ []) in
-      let u : PictureOf C = steps_on rows next.cols (painting_strokes b (Some p.back) next) (begun cuts b p.cols next t) in
-      let one = painted_begun rows cuts b p.cols next s (Some p.back) t fit.0 inside (left-before b s p next.cleared t led fresh.row) in
-      let rest = painted_over rows cuts b s1 next more u fit.0.led fit.1 (in-sight-below rows s s1 le inside) one.fresh in
-      joined cuts b p.cols s s1 (top_row rows s1 more) next (last_painting next more) (cols_of more) t u _ le (top-le rows s1 more) one rest
+  -- a painting, and those over it
+  over : (rows : Option ℕ) (cuts : Bool) (b : C) (v s : ℕ) (before : Option (ℕ → ℕ)) (first : SheetPainting C) (more : List (SheetPainting C)) (t : PictureOf C)
+      → IsFit rows b first → InSight rows s → IsBefore first.cleared s before t
+      → let s1 = raised_row rows first.cols (if first.cleared then 0 else s) first.sheet in
+      let u = steps_on rows first.cols (painting_strokes b before first) (begun cuts b v first t) in
+      (IsFreshSheet first.cols s1 b first.sheet u → AreShownOver cuts b (narrowest first.cols (cols_of more)) s1 (top_row rows s1 more) (last_painting first more) u (paint_all rows cuts b first.cols (Some first.back) more u))
+      → AreShownOver cuts b (narrowest v (cols_of (first ∷ more))) s (top_row rows s (first ∷ more)) (last_painting first more) t (paint_all rows cuts b v before (first ∷ more) t)
+  over rows cuts b v s before first more t fit inside k others =
+      let s1 : ℕ = raised_row rows first.cols (if first.cleared then 0 else s) first.sheet in
+      let w : ℕ = first.cols in
+      let one = painted_begun rows cuts b v first s before t fit inside k in
+      let rest = others one.fresh in
+      let up : s1 ≤ s = top-le rows s (first ∷ []) in
+      let down : top_row rows s1 more ≤ s1 = top-le rows s1 more in
+      let least : narrowest w (cols_of more) ≤ w = narrowest-le w (cols_of more) in
+      record {
+        fresh = rest.fresh;
+        above = λ r c h i k.
+            rest.above r c h i (omega arith) ∙ one.above (r + (s1 - top_row rows s1 more)) c (omega arith) (omega arith)
+            ∙ resized-kept cuts b v w t (r + (s1 - top_row rows s1 more) + (s - s1)) c (omega arith) (omega arith) ∙ ap (λ y. t.cell y c) (omega arith);
+        cut = λ is r c h i k. elim (cases_lt c (narrowest w (cols_of more))) [
+          | inl near ↦
+              rest.above r c h i near ∙ one.above (r + (s1 - top_row rows s1 more)) c (omega arith) (omega arith)
+              ∙ ap (λ x. (resized x b v w t).cell (r + (s1 - top_row rows s1 more) + (s - s1)) c) is
+              ∙ resized-cut b v w t (r + (s1 - top_row rows s1 more) + (s - s1)) c (omega arith)
+          | inr far ↦ rest.cut is r c h i far
+        ];
+      }
 
   -- After a list of paintings the screen shows the last one fresh.
   pub painted_all : (rows : Option ℕ) (cuts : Bool) (b : C) (v s : ℕ) (before : Option (ℕ → ℕ)) (first : SheetPainting C) (more : List (SheetPainting C)) (t : PictureOf C)
       → AreFit rows b (first ∷ more) → InSight rows s → IsBefore first.cleared s before t
       → AreShownOver cuts b (narrowest v (cols_of (first ∷ more))) s (top_row rows s (first ∷ more)) (last_painting first more) t (paint_all rows cuts b v before (first ∷ more) t)
-  painted_all rows cuts b v s before first more t fit inside k =
+  painted_all rows cuts b v s before first [] t fit inside k =
+      over rows cuts b v s before first [] t fit.0 inside k
+      (λ fresh. record { fresh = fresh; above = λ r c h i k. ap (λ y. (steps_on rows first.cols (painting_strokes b before first) (begun cuts b v first t)).cell y c) (omega arith); cut = λ is r c h i k. absurd (omega arith) })
+  painted_all rows cuts b v s before first (next ∷ more) t fit inside k =
       let s1 : ℕ = raised_row rows first.cols (if first.cleared then 0 else s) first.sheet in
-      let le : s1 ≤ s = top-le rows s (first ∷ []) in
       let u : PictureOf C = steps_on rows first.cols (painting_strokes b before first) (begun cuts b v first t) in
-      let one = painted_begun rows cuts b v first s before t fit.0 inside k in
-      let rest = painted_over rows cuts b s1 first more u fit.0.led fit.1 (in-sight-below rows s s1 le inside) one.fresh in
-      joined cuts b v s s1 (top_row rows s1 more) first (last_painting first more) (cols_of more) t u _ le (top-le rows s1 more) one rest
+      over rows cuts b v s before first (next ∷ more) t fit.0 inside k
+      (λ fresh. painted_all rows cuts b first.cols s1 (Some first.back) next more u fit.1 (in-sight-below rows s s1 (top-le rows s (first ∷ [])) inside) (left-before b s1 first next.cleared u fit.0.led fresh.row))

@@ -1,62 +1,37 @@
 -- What is played on a screen of characters is what its strokes draw.
-use Rattle.std.proofs.Common.{◌≡◌, ℕ, ◌+◌, ◌-◌, ◌<◌, ◌≤◌, true, Some, None, false, List, [], ◌∷◌, map, refl, sym, ap, ◌∙◌, arith, inl, inr}
+use Rattle.std.proofs.Common.{◌≡◌, ℕ, ◌+◌, ◌-◌, ◌<◌, ◌≤◌, true, Some, None, false, List, [], ◌∷◌, map, refl, sym, ap, ◌∙◌, arith}
 use Rattle.std.specs.List.{list_all}
-use Rattle.std.proofs.lemmas.Bool.{cases_eq, eq-eqb, ne_eqb, and_parts, le-leb, lt-leb}
+use Rattle.std.proofs.lemmas.Bool.Decides.{nat_tests}
+use Rattle.std.proofs.lemmas.Bool.{and_parts}
 use Rattle.laws_screens.specs.Strokes.{PictureOf, Stroke, step, steps, scrolled, steps_on}
 use Rattle.std.proofs.Math.Path.{fun_ext}
 use Rattle.laws_screens.proofs.LineOfCells.{steps-append}
-use Rattle.laws_screens.proofs.SeenRows.{steps_on-append}
-use Rattle.tw_surface.specs.ChangeView.{ChangeView, Batch}
-use Rattle.tw_surface.specs.ChangeView.{Attribute, AllAttributes, Text, ClearScreen, ClearToEndOfScreen, CursorPosition}
-use Rattle.tw_surface.specs.Characters.{cr, lf}
+use Rattle.laws_screens.proofs.SeenRows.{low-on, steps_on-append}
+use Rattle.tw_surface.specs.ChangeView.{ChangeView, Batch, Attribute, AllAttributes, Text, ClearScreen, ClearToEndOfScreen, CursorPosition}
 use Rattle.tw_surface.specs.Pictures.{Picture, can_play, play_char, play_text, play, play_all}
 use Rattle.tw_surface.specs.Scrolling.{scroll, play_text_on, play_on, play_all_on}
-use Rattle.laws_screens.specs.Pens.{glyph_stroke, change_strokes, strokes_of}
+use Rattle.laws_screens.specs.Pens.{char_stroke, change_strokes, strokes_of}
 use Rattle.laws_screens.specs.StyledCells.{characters}
 use Rattle.laws_screens.specs.CharacterScreens.{cells_of, PlaysBatches, PlaysBatchesOn}
 use Rattle.laws_screens.specs.Screens.{play_sized}
 use Rattle.laws_screens.specs.SizedBatches.{sized_at}
-use Rattle.laws_screens.proofs.PlainGlyphs.{glyph_of, plain_glyphs}
+use Rattle.laws_screens.proofs.PlainGlyphs.{plain_strokes}
 
 abbrev kept : Unit {0}
 kept = tt
 
-abbrev char_stroke : ℕ → Stroke ℕ
-char_stroke ch = glyph_stroke characters kept (glyph_of ch)
+abbrev char : ℕ → Stroke ℕ
+char ch = char_stroke characters kept ch
 
-played_char : (w ch : ℕ) (s : Picture) → 0 < w → s.col ≤ w → cells_of (play_char w ch s) ≡ step w (char_stroke ch) (cells_of s)
-played_char w ch s some within = elim (cases_eq ch cr) [
-  | inl e ↦ rw (eq-eqb ch cr e) refl
-  | inr n ↦ elim (cases_eq ch lf) [
-    | inl e ↦ rw (ne_eqb ch cr n, eq-eqb ch lf e) refl
-    | inr m ↦ rw (ne_eqb ch cr n, ne_eqb ch lf m) (elim (cases_eq s.col w) [
-      | inl e ↦ rw (eq-eqb s.col w e, lt-leb (s.col + 1) w (omega (arith, e))) refl
-      | inr k ↦ rw (ne_eqb s.col w k, le-leb (s.col + 1) w (omega (arith, k, within))) refl
-    ])
-  ]
-]
+played_char : (w ch : ℕ) (s : Picture) → 0 < w → s.col ≤ w → (cells_of (play_char w ch s) ≡ step w (char ch) (cells_of s)) × ((play_char w ch s).col ≤ w)
+played_char w ch s some within = grind (arith, nat_tests)
 
-char_within : (w ch : ℕ) (s : Picture) → 0 < w → s.col ≤ w → (play_char w ch s).col ≤ w
-char_within w ch s some within = elim (cases_eq ch cr) [
-  | inl e ↦ rw (eq-eqb ch cr e) (omega arith)
-  | inr n ↦ elim (cases_eq ch lf) [
-    | inl e ↦ rw (ne_eqb ch cr n, eq-eqb ch lf e) within
-    | inr m ↦ rw (ne_eqb ch cr n, ne_eqb ch lf m) (elim (cases_eq s.col w) [
-      | inl e ↦ rw (eq-eqb s.col w e) (omega (arith, some))
-      | inr k ↦ rw (ne_eqb s.col w k) (omega (arith, k, within))
-    ])
-  ]
-]
-
-played_text : (w : ℕ) (text : List ℕ) (s : Picture) → 0 < w → s.col ≤ w → (cells_of (play_text w text s) ≡ steps w (map char_stroke text) (cells_of s)) × ((play_text w text s).col ≤ w)
+played_text : (w : ℕ) (text : List ℕ) (s : Picture) → 0 < w → s.col ≤ w → (cells_of (play_text w text s) ≡ steps w (map char text) (cells_of s)) × ((play_text w text s).col ≤ w)
 played_text w [] s some within = (refl, within)
 played_text w (ch ∷ text) s some within =
-    let rest = played_text w text (play_char w ch s) some (char_within w ch s some within) in
-    (rest.0 ∙ ap (steps w (map char_stroke text)) (played_char w ch s some within), rest.1)
-
-text_strokes : (text : List ℕ) → map (glyph_stroke characters kept) (map glyph_of text) ≡ map char_stroke text
-text_strokes [] = refl
-text_strokes (ch ∷ text) = ap (λ l. char_stroke ch ∷ l) (text_strokes text)
+    let one = played_char w ch s some within in
+    let rest = played_text w text (play_char w ch s) some one.1 in
+    (rest.0 ∙ ap (steps w (map char text)) one.0, rest.1)
 
 played_change : (w : ℕ) (change : ChangeView) (s : Picture) → 0 < w → s.col ≤ w → can_play change ≡ true
     → (cells_of (play w change s) ≡ steps w (change_strokes characters kept change) (cells_of s)) × ((play w change s).col ≤ w)
@@ -64,7 +39,7 @@ played_change w (Attribute a) s some within h = (refl, within)
 played_change w (AllAttributes a) s some within h = (refl, within)
 played_change w (Text text) s some within h =
     let all = played_text w text s some within in
-    (all.0 ∙ ap (λ l. steps w l (cells_of s)) (sym (ap (map (glyph_stroke characters kept)) (plain_glyphs text h) ∙ text_strokes text)), all.1)
+    (all.0 ∙ ap (λ l. steps w l (cells_of s)) (sym (plain_strokes characters kept text h)), all.1)
 played_change w (ClearScreen color) s some within h = (refl, omega arith)
 played_change w (ClearToEndOfScreen color) s some within h = (refl, within)
 played_change w (CursorPosition x y) s some within h = (refl, omega arith)
@@ -98,11 +73,12 @@ plays_batches w (batch ∷ more) s some within h =
 -- ---- on some rows
 
 played_text_on : (h w : ℕ) (text : List ℕ) (s : Picture) → 0 < w → s.col ≤ w
-    → (cells_of (play_text_on h w text s) ≡ steps_on (Some h) w (map char_stroke text) (cells_of s)) × ((play_text_on h w text s).col ≤ w)
+    → (cells_of (play_text_on h w text s) ≡ steps_on (Some h) w (map char text) (cells_of s)) × ((play_text_on h w text s).col ≤ w)
 played_text_on h w [] s some within = (refl, within)
 played_text_on h w (ch ∷ text) s some within =
-    let rest = played_text_on h w text (scroll h (play_char w ch s)) some (char_within w ch s some within) in
-    (rest.0 ∙ ap (λ q. steps_on (Some h) w (map char_stroke text) (scrolled (Some h) q)) (played_char w ch s some within), rest.1)
+    let one = played_char w ch s some within in
+    let rest = played_text_on h w text (scroll h (play_char w ch s)) some one.1 in
+    (rest.0 ∙ ap (λ q. steps_on (Some h) w (map char text) (scrolled (Some h) q)) one.0, rest.1)
 
 -- a cursor in sight scrolls nothing
 still : (h : ℕ) (s : PictureOf ℕ) → s.row < h → s ≡ scrolled (Some h) s
@@ -110,26 +86,13 @@ still h s low =
     ap (λ f. record { cell = f; row = s.row; col = s.col }) (fun_ext (λ i. fun_ext (λ j. ap (λ r. s.cell r j) (omega (arith, low)))))
     ∙ ap (λ r. record { cell = λ i j. s.cell (i + (s.row + 1 - h)) j; row = r; col = s.col }) (omega (arith, low))
 
--- the cursor stays in sight
-row_text : (h w : ℕ) (text : List ℕ) (s : Picture) → s.row < h → (play_text_on h w text s).row < h
-row_text h w [] s low = low
-row_text h w (ch ∷ text) s low = row_text h w text (scroll h (play_char w ch s)) (omega (arith, low))
-
-row_change : (h w : ℕ) (change : ChangeView) (s : Picture) → s.row < h → (play_on h w change s).row < h
-row_change h w (Attribute a) s low = low
-row_change h w (AllAttributes a) s low = low
-row_change h w (Text text) s low = row_text h w text s low
-row_change h w (ClearScreen color) s low = omega (arith, low)
-row_change h w (ClearToEndOfScreen color) s low = low
-row_change h w (CursorPosition x y) s low = omega (arith, low)
-
 played_change_on : (h w : ℕ) (change : ChangeView) (s : Picture) → 0 < w → s.row < h → s.col ≤ w → can_play change ≡ true
     → (cells_of (play_on h w change s) ≡ steps_on (Some h) w (change_strokes characters kept change) (cells_of s)) × ((play_on h w change s).col ≤ w)
 played_change_on h w (Attribute a) s some low within k = (refl, within)
 played_change_on h w (AllAttributes a) s some low within k = (refl, within)
 played_change_on h w (Text text) s some low within k =
     let all = played_text_on h w text s some within in
-    (all.0 ∙ ap (λ l. steps_on (Some h) w l (cells_of s)) (sym (ap (map (glyph_stroke characters kept)) (plain_glyphs text k) ∙ text_strokes text)), all.1)
+    (all.0 ∙ ap (λ l. steps_on (Some h) w l (cells_of s)) (sym (plain_strokes characters kept text k)), all.1)
 played_change_on h w (ClearScreen color) s some low within k = (still h (cells_of (play w (ClearScreen color) s)) (omega (arith, low)), omega arith)
 played_change_on h w (ClearToEndOfScreen color) s some low within k = (still h (cells_of (play w (ClearToEndOfScreen color) s)) low, within)
 played_change_on h w (CursorPosition x y) s some low within k = (refl, omega arith)
@@ -140,9 +103,11 @@ plays_strokes_on h w [] s some low within k = (refl, low, within)
 plays_strokes_on h w (change ∷ changes) s some low within k =
     let both = and_parts (can_play change) (list_all can_play changes) k in
     let one = played_change_on h w change s some low within both.0 in
-    let rest = plays_strokes_on h w changes (play_on h w change s) some (row_change h w change s low) one.1 both.1 in (
+    let strokes : List (Stroke ℕ) = change_strokes characters kept change in
+    let low' : (play_on h w change s).row < h = omega (arith, ap (λ q. q.row) one.0, low-on (Some h) w strokes (cells_of s) low) in
+    let rest = plays_strokes_on h w changes (play_on h w change s) some low' one.1 both.1 in (
       rest.0 ∙ ap (steps_on (Some h) w (strokes_of characters kept changes)) one.0
-          ∙ sym (steps_on-append (Some h) w (change_strokes characters kept change) (strokes_of characters kept changes) (cells_of s)),
+          ∙ sym (steps_on-append (Some h) w strokes (strokes_of characters kept changes) (cells_of s)),
       rest.1,
       rest.2,
     )

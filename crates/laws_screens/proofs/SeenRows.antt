@@ -1,23 +1,17 @@
 -- A screen of some rows shows a window of the screen without a bottom.
-use Rattle.std.proofs.Common.{◌≡◌, ℕ, ◌+◌, ◌-◌, ◌≤◌, Bool, true, false, ◌&&◌, ◌||◌, Option, Some, None, List, [], ◌∷◌, ◌++◌, length, inl, inr, refl, sym, ap, ◌∙◌, subst, arith, if◌then◌else◌, eqb, ltb, leb}
+use Rattle.std.proofs.Common.{◌≡◌, ℕ, ◌+◌, ◌-◌, ◌≤◌, Bool, true, false, Option, Some, None, List, [], ◌∷◌, ◌++◌, refl, sym, ap, ◌∙◌, subst, arith, eqb, ltb}
 use Rattle.std.specs.List.{list_all}
-use Rattle.std.proofs.lemmas.Bool.{cases_eq, cases_lt, eq-eqb, ne_eqb, lt-ltb, le-ltb, false≢true, and_from}
-use Rattle.std.proofs.lemmas.List.Folds.{list_all-append}
+use Rattle.std.proofs.lemmas.Bool.{false≢true, and_parts}
+use Rattle.std.proofs.lemmas.Bool.Decides.{nat_tests}
 use Rattle.laws_screens.specs.Strokes.{PictureOf, Stroke, put_in, put_all, cleared_in, put, step, steps, excess, scrolled, steps_on, InSight}
-use Rattle.laws_screens.specs.Strokes.Stroke.{Put, Return, Feed, Clear, ClearBehind, Move}
-use Rattle.laws_screens.specs.Sheets.{typed, broken}
+use Rattle.laws_screens.specs.Strokes.Stroke.{Put, Return, Feed}
+use Rattle.laws_screens.specs.Sheets.{Writing, typed, broken}
 
 shift-eqb : (i r t : ℕ) → eqb i r ≡ eqb (i + t) (r + t)
-shift-eqb i r t = elim (cases_eq i r) [
-  | inl e ↦ rw (eq-eqb i r e, eq-eqb (i + t) (r + t) (omega (arith, e))) refl
-  | inr n ↦ rw (ne_eqb i r n, ne_eqb (i + t) (r + t) (λ e. n (omega (arith, e)))) refl
-]
+shift-eqb i r t = grind (arith, nat_tests)
 
 shift-ltb : (i r t : ℕ) → ltb i r ≡ ltb (i + t) (r + t)
-shift-ltb i r t = elim (cases_lt i r) [
-  | inl e ↦ rw (lt-ltb i r e, lt-ltb (i + t) (r + t) (omega (arith, e))) refl
-  | inr n ↦ rw (le-ltb i r n, le-ltb (i + t) (r + t) (omega (arith, n))) refl
-]
+shift-ltb i r t = grind (arith, nat_tests)
 
 -- the first row that is seen, once the cursor has come from a row that is seen down to row r
 abbrev pub seen_from : Option ℕ → ℕ → ℕ → ℕ
@@ -28,7 +22,7 @@ seen-step : (rows : Option ℕ) (t from row last : ℕ) → row ≡ from + t →
 seen-step None t from row last at down = omega arith
 seen-step (Some h) t from row last at down = omega (arith, at, down)
 
-in-sight-again : {C : Type 0} (rows : Option ℕ) (before : ℕ) (s : PictureOf C) → InSight rows before → InSight rows (scrolled rows s).row
+pub in-sight-again : {C : Type 0} (rows : Option ℕ) (before : ℕ) (s : PictureOf C) → InSight rows before → InSight rows (scrolled rows s).row
 in-sight-again None before s h = tt
 in-sight-again (Some h) before s low = omega (arith, low)
 
@@ -60,107 +54,72 @@ module _ {C : Type 0} where
   is_typing (Put x) = true
   is_typing Return = true
   is_typing Feed = true
-  is_typing (Clear x) = false
-  is_typing (ClearBehind x) = false
-  is_typing (Move row col) = false
+  is_typing _ = false
 
-  pub typed-types : (line : List (List C)) → list_all is_typing (typed line) ≡ true
-  typed-types [] = refl
-  typed-types (x ∷ line) = typed-types line
+  typed-types : (line : List (List C)) (more : List (Stroke C)) → list_all is_typing more ≡ true → list_all is_typing (typed line ++ more) ≡ true
+  typed-types [] more h = h
+  typed-types (x ∷ line) more h = typed-types line more h
 
-  pub broken-types : (lines : List (List (List C))) → list_all is_typing (broken lines) ≡ true
+  broken-types : (lines : List (List (List C))) → list_all is_typing (broken lines) ≡ true
   broken-types [] = refl
-  broken-types (line ∷ more) =
-      list_all-append is_typing (typed line) (broken more)
-      ∙ and_from (list_all is_typing (typed line)) (list_all is_typing (broken more)) (typed-types line) (broken-types more)
+  broken-types (line ∷ more) = typed-types line (broken more) (broken-types more)
+
+  pub drawing-types : (writing : Writing C) → list_all is_typing (typed writing.text ++ broken writing.lower) ≡ true
+  drawing-types writing = typed-types writing.text (broken writing.lower) (broken-types writing.lower)
 
   -- none of them leads up
   typing-row : (w : ℕ) (stroke : Stroke C) (s : PictureOf C) → is_typing stroke ≡ true → s.row ≤ (step w stroke s).row
-  typing-row w (Put cells) s k = go (leb (s.col + length cells) w) refl
-    where
-      go : (x : Bool) → leb (s.col + length cells) w ≡ x → s.row ≤ (put w cells s).row
-      go true e = rw e (omega arith)
-      go false e = rw e (omega arith)
+  typing-row w (Put cells) s k = grind (arith, nat_tests)
   typing-row w Return s k = omega arith
   typing-row w Feed s k = omega arith
-  typing-row w (Clear x) s k = absurd (false≢true k)
-  typing-row w (ClearBehind x) s k = absurd (false≢true k)
-  typing-row w (Move row col) s k = absurd (false≢true k)
+  typing-row w _ s k = absurd (false≢true k)
 
   all-typing-row : (w : ℕ) (strokes : List (Stroke C)) (s : PictureOf C) → list_all is_typing strokes ≡ true → s.row ≤ (steps w strokes s).row
   all-typing-row w [] s k = omega arith
   all-typing-row w (stroke ∷ more) s k =
-      let both = parts (is_typing stroke) k in
+      let both = and_parts (is_typing stroke) (list_all is_typing more) k in
       omega (arith, typing-row w stroke s both.0, all-typing-row w more (step w stroke s) both.1)
-    where
-      parts : (x : Bool) → (x && list_all is_typing more) ≡ true → (x ≡ true) × (list_all is_typing more ≡ true)
-      parts true e = (refl, e)
-      parts false e = absurd (false≢true e)
 
   -- ---- they keep what is seen
 
   sees-put_in : (t r c : ℕ) (x : C) (f g : ℕ → ℕ → C) → ((i j : ℕ) → f i j ≡ g (i + t) j) → (i j : ℕ) → put_in f r c x i j ≡ put_in g (r + t) c x (i + t) j
-  sees-put_in t r c x f g h i j =
-      ap (λ e. if e && eqb j c then x else f i j) (shift-eqb i r t) ∙ ap (λ y. if eqb (i + t) (r + t) && eqb j c then x else y) (h i j)
+  sees-put_in t r c x f g h i j = rw (shift-eqb i r t, h i j) refl
 
   sees-put_all : (t r c : ℕ) (cells : List C) (f g : ℕ → ℕ → C) → ((i j : ℕ) → f i j ≡ g (i + t) j) → (i j : ℕ) → put_all f r c cells i j ≡ put_all g (r + t) c cells (i + t) j
   sees-put_all t r c [] f g h i j = h i j
   sees-put_all t r c (x ∷ cells) f g h i j = sees-put_all t r (c + 1) cells (put_in f r c x) (put_in g (r + t) c x) (sees-put_in t r c x f g h) i j
 
   sees-put : (w t : ℕ) (cells : List C) (b u : PictureOf C) → Sees t b u → Sees t (put w cells b) (put w cells u)
-  sees-put w t cells b u s = go (leb (b.col + length cells) w) refl
-    where
-      same : leb (u.col + length cells) w ≡ leb (b.col + length cells) w
-      same = ap (λ c. leb (c + length cells) w) s.col
-
-      go : (x : Bool) → leb (b.col + length cells) w ≡ x → Sees t (put w cells b) (put w cells u)
-      go true e = rw (same, e) (record {
-        row = s.row;
-        col = omega (arith, s.col);
-        cell = λ i j. sees-put_all t b.row b.col cells b.cell u.cell s.cell i j ∙ ap (λ r. put_all u.cell r b.col cells (i + t) j) (sym s.row) ∙ ap (λ c. put_all u.cell u.row c cells (i + t) j) (sym s.col);
-      })
-      go false e = rw (same, e) (record {
-        row = omega (arith, s.row);
-        col = refl;
-        cell = λ i j. sees-put_all t (b.row + 1) 0 cells b.cell u.cell s.cell i j ∙ ap (λ r. put_all u.cell r 0 cells (i + t) j) (omega (arith, s.row));
-      })
+  sees-put w t cells b u s = record {
+    row = grind (arith, nat_tests, s.row, s.col);
+    col = grind (arith, nat_tests, s.row, s.col);
+    cell = λ i j. grind (arith, nat_tests, s.row, s.col, sees-put_all t b.row b.col cells b.cell u.cell s.cell i j, sees-put_all t (b.row + 1) 0 cells b.cell u.cell s.cell i j);
+  }
 
   sees-stroke : (w t : ℕ) (stroke : Stroke C) (b u : PictureOf C) → is_typing stroke ≡ true → Sees t b u → Sees t (step w stroke b) (step w stroke u)
   sees-stroke w t (Put cells) b u k s = sees-put w t cells b u s
   sees-stroke w t Return b u k s = record { row = s.row; col = refl; cell = s.cell }
   sees-stroke w t Feed b u k s = record { row = omega (arith, s.row); col = s.col; cell = s.cell }
-  sees-stroke w t (Clear x) b u k s = absurd (false≢true k)
-  sees-stroke w t (ClearBehind x) b u k s = absurd (false≢true k)
-  sees-stroke w t (Move row col) b u k s = absurd (false≢true k)
+  sees-stroke w t _ b u k s = absurd (false≢true k)
 
   -- what is typed on some rows shows what it shows without a bottom
   pub sees-typing : (rows : Option ℕ) (w : ℕ) (strokes : List (Stroke C)) (t : ℕ) (b u : PictureOf C) → list_all is_typing strokes ≡ true → InSight rows b.row → Sees t b u
       → Sees (seen_from rows t (steps w strokes u).row) (steps_on rows w strokes b) (steps w strokes u)
-  sees-typing rows w [] t b u k low s = subst (λ n. Sees n b u) (seen-here rows low) s
-    where
-      seen-here : (rows : Option ℕ) → InSight rows b.row → t ≡ seen_from rows t u.row
-      seen-here None low = omega arith
-      seen-here (Some h) low = omega (arith, low, s.row)
+  sees-typing None w [] t b u k low s = subst (λ n. Sees n b u) (omega arith) s
+  sees-typing (Some h) w [] t b u k low s = subst (λ n. Sees n b u) (omega (arith, low, s.row)) s
   sees-typing rows w (stroke ∷ more) t b u k low s =
-      let both = parts (is_typing stroke) k in
+      let both = and_parts (is_typing stroke) (list_all is_typing more) k in
       let c : PictureOf C = step w stroke b in
       let v : PictureOf C = step w stroke u in
       let one : Sees t c v = sees-stroke w t stroke b u both.0 s in
       let rest = sees-typing rows w more (t + excess rows c.row) (scrolled rows c) v both.1 (in-sight-again rows b.row c low) (sees-scrolled rows t c v b.row low one) in
       subst (λ n. Sees n (steps_on rows w more (scrolled rows c)) (steps w more v))
       (seen-step rows t c.row v.row (steps w more v).row one.row (all-typing-row w more v both.1)) rest
-    where
-      parts : (x : Bool) → (x && list_all is_typing more) ≡ true → (x ≡ true) × (list_all is_typing more ≡ true)
-      parts true e = (refl, e)
-      parts false e = absurd (false≢true e)
 
   -- ---- a clearing from the cursor on
 
   sees-cleared_in : (t r c : ℕ) (x : C) (f g : ℕ → ℕ → C) → ((i j : ℕ) → f i j ≡ g (i + t) j) → (i j : ℕ) → cleared_in f r c x i j ≡ cleared_in g (r + t) c x (i + t) j
-  sees-cleared_in t r c x f g h i j =
-      ap (λ e. if e || (eqb r i && leb c j) then x else f i j) (shift-ltb r i t)
-      ∙ ap (λ e. if ltb (r + t) (i + t) || (e && leb c j) then x else f i j) (shift-eqb r i t)
-      ∙ ap (λ y. if ltb (r + t) (i + t) || (eqb (r + t) (i + t) && leb c j) then x else y) (h i j)
+  sees-cleared_in t r c x f g h i j = rw (shift-ltb r i t, shift-eqb r i t, h i j) refl
 
   pub sees-clear : (t : ℕ) (x : C) (b u : PictureOf C) → Sees t b u → Sees t (record b { cell = cleared_in b.cell b.row b.col x }) (record u { cell = cleared_in u.cell u.row u.col x })
   sees-clear t x b u s = record {
@@ -180,3 +139,8 @@ module _ {C : Type 0} where
   pub steps_on-append : (rows : Option ℕ) (w : ℕ) (a b : List (Stroke C)) (s : PictureOf C) → steps_on rows w (a ++ b) s ≡ steps_on rows w b (steps_on rows w a s)
   steps_on-append rows w [] b s = refl
   steps_on-append rows w (stroke ∷ a) b s = steps_on-append rows w a b (scrolled rows (step w stroke s))
+
+  -- the cursor stays in sight
+  pub low-on : (rows : Option ℕ) (w : ℕ) (strokes : List (Stroke C)) (s : PictureOf C) → InSight rows s.row → InSight rows (steps_on rows w strokes s).row
+  low-on rows w [] s low = low
+  low-on rows w (stroke ∷ more) s low = low-on rows w more (scrolled rows (step w stroke s)) (in-sight-again rows s.row (step w stroke s) low)

@@ -1,5 +1,5 @@
 -- The cell in which the cursor stands.
-use Rattle.std.specs.Prelude.{ℕ, pos, ◌≡◌, ◌≤◌, ◌<◌, ◌+◌, ◌+ℤ◌, leb, ◌⊎◌, if◌then◌else◌, List, [], ◌∷◌, ◌++◌, map}
+use Rattle.std.specs.Prelude.{ℕ, ◌≡◌, ◌≤◌, ◌<◌, ◌+◌, ◌⊎◌, List, [], ◌∷◌, ◌++◌, map}
 use Rattle.tw_surface.specs.Paintings.{before_line, cursor_place}
 use Rattle.tw_surface.specs.Places.{Place, place_after_all, end_of_pieces, origin, begins_at}
 use Rattle.tw_surface.specs.Scenes.{Scene}

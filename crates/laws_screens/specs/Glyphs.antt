@@ -4,8 +4,7 @@ use Rattle.std.specs.List.{list_all, flat_map}
 use Rattle.unicode_segmentation.specs.Grapheme.{graphemes}
 use Rattle.tw_surface.specs.declared.measure.Piece.{Piece}
 use Rattle.tw_surface.specs.declared.measure.Piece.TheVariants as piece
-use Rattle.tw_surface.specs.ChangeView.{ChangeView, Batch}
-use Rattle.tw_surface.specs.ChangeView.{Attribute, AllAttributes, Text, ClearScreen, ClearToEndOfScreen, CursorPosition}
+use Rattle.tw_surface.specs.ChangeView.{ChangeView, Batch, Attribute, AllAttributes, Text}
 use Rattle.tw_surface.specs.Characters.{is_plain, cr, lf}
 use Rattle.tw_surface.specs.Places.{plain_piece, cluster_piece}
 use Rattle.tw_surface.specs.Scenes.{Scene, Lower, is_text}
@@ -41,11 +40,7 @@ glyphs text =
 abbrev pub typed_glyphs : Batch → List Glyph
 typed_glyphs [] = []
 typed_glyphs (Text text ∷ changes) = glyphs text ++ typed_glyphs changes
-typed_glyphs (Attribute a ∷ changes) = typed_glyphs changes
-typed_glyphs (AllAttributes a ∷ changes) = typed_glyphs changes
-typed_glyphs (ClearScreen color ∷ changes) = typed_glyphs changes
-typed_glyphs (ClearToEndOfScreen color ∷ changes) = typed_glyphs changes
-typed_glyphs (CursorPosition x y ∷ changes) = typed_glyphs changes
+typed_glyphs (_ ∷ changes) = typed_glyphs changes
 
 -- CR, and LF after it
 abbrev pub is_pair : Glyph → Glyph → Bool
@@ -67,18 +62,15 @@ lines_by glyph (x ∷ text) = before_by glyph x (lines_by glyph text)
 
 -- a cluster that fits in a row of cols columns
 abbrev pub fits_in : ℕ → Glyph → Bool
-fits_in cols Cr = false
-fits_in cols Lf = false
 fits_in cols (Cluster cluster columns) = leb columns cols
+fits_in cols _ = false
 
 -- an attribute, or a text of such clusters
 abbrev pub types_fitting : ℕ → ChangeView → Bool
 types_fitting cols (Attribute a) = true
 types_fitting cols (AllAttributes a) = true
 types_fitting cols (Text text) = list_all (fits_in cols) (glyphs text)
-types_fitting cols (ClearScreen color) = false
-types_fitting cols (ClearToEndOfScreen color) = false
-types_fitting cols (CursorPosition x y) = false
+types_fitting cols _ = false
 
 -- a lower text of attributes and such clusters, a preview's with pairs of CR and LF too
 abbrev pub IsMeasuredLower : ℕ → Lower → Type 0

@@ -23,9 +23,8 @@ pub record IsPaintedAs {A C : Type 0} (pen : Pen A C) (station other : SizedScen
 -- each station of a list as one of another list
 abbrev pub ArePaintedAs : {A C : Type 0} → Pen A C → List SizedScene → List SizedScene → Type 0
 ArePaintedAs pen [] [] = Unit {0}
-ArePaintedAs pen [] (other ∷ others) = ⊥
-ArePaintedAs pen (station ∷ stations) [] = ⊥
 ArePaintedAs pen (station ∷ stations) (other ∷ others) = IsPaintedAs pen station other × ArePaintedAs pen stations others
+ArePaintedAs pen _ _ = ⊥
 
 -- A measured station is painted as itself.
 abbrev pub MeasuredIsItself : {A C : Type 0} → Pen A C → Type 0

@@ -7,8 +7,7 @@ use Rattle.tw_surface.specs.declared.cell.AttributeChange.{AttributeChange}
 use Rattle.tw_surface.specs.declared.cell.CellAttributes.{CellAttributes}
 use Rattle.tw_surface.specs.declared.change.Position.{Position}
 use Rattle.tw_surface.specs.declared.color.ColorAttribute.{ColorAttribute}
-use Rattle.tw_surface.specs.ChangeView.{ChangeView, Batch}
-use Rattle.tw_surface.specs.ChangeView.{Attribute, AllAttributes, Text, ClearScreen, ClearToEndOfScreen, CursorPosition}
+use Rattle.tw_surface.specs.ChangeView.{ChangeView, Batch, Attribute, AllAttributes, Text, ClearScreen, ClearToEndOfScreen, CursorPosition}
 use Rattle.laws_screens.specs.Glyphs.{Glyph, glyphs, lines_by}
 use Rattle.laws_screens.specs.Glyphs.Glyph.{Cr, Lf, Cluster}
 use Rattle.tw_surface.specs.Positions.{position_after, at_least_0}
@@ -32,10 +31,7 @@ cluster_cells pen a cluster (suc more) = pen.ink a cluster ∷ replicate more (p
 abbrev pub kept_after : {A C : Type 0} → Pen A C → A → ChangeView → A
 kept_after pen a (Attribute x) = pen.attribute x a
 kept_after pen a (AllAttributes x) = pen.attributes x
-kept_after pen a (Text text) = a
-kept_after pen a (ClearScreen color) = a
-kept_after pen a (ClearToEndOfScreen color) = a
-kept_after pen a (CursorPosition x y) = a
+kept_after pen a _ = a
 
 abbrev pub kept_after_all : {A C : Type 0} → Pen A C → A → Batch → A
 kept_after_all pen a [] = a
@@ -43,9 +39,8 @@ kept_after_all pen a (change ∷ changes) = kept_after_all pen (kept_after pen a
 
 -- the cells of a glyph
 abbrev pub cells_under : {A C : Type 0} → Pen A C → A → Glyph → List C
-cells_under pen a Cr = []
-cells_under pen a Lf = []
 cells_under pen a (Cluster cluster columns) = cluster_cells pen a cluster columns
+cells_under pen a _ = []
 
 -- the stroke of a glyph
 abbrev pub glyph_stroke : {A C : Type 0} → Pen A C → A → Glyph → Stroke C
@@ -92,9 +87,7 @@ letters_of pen a [] = []
 letters_of pen a (Text text ∷ changes) = letters_under a (glyphs text) ++ letters_of pen a changes
 letters_of pen a (Attribute x ∷ changes) = letters_of pen (pen.attribute x a) changes
 letters_of pen a (AllAttributes x ∷ changes) = letters_of pen (pen.attributes x) changes
-letters_of pen a (ClearScreen color ∷ changes) = letters_of pen a changes
-letters_of pen a (ClearToEndOfScreen color ∷ changes) = letters_of pen a changes
-letters_of pen a (CursorPosition x y ∷ changes) = letters_of pen a changes
+letters_of pen a (_ ∷ changes) = letters_of pen a changes
 
 -- their lines between pairs of CR and LF
 abbrev pub lines_of_letters : {A : Type 0} → List (Letter A) → List (List (Letter A))

@@ -20,7 +20,7 @@ use tw_hosts::TableHost;
 use tw_lineedit::BasicHistory;
 use tw_prompt::{Arguments, Prompt, TerminalInput, open_streams, read_listing};
 use tw_prompt_host::NestedLines;
-use tw_sparing::{PatientTerminal, SparingTerminal};
+use tw_sparing::PatientTerminal;
 use tw_terminal::ScreenSize;
 
 /// What stands before the line.
@@ -116,7 +116,7 @@ fn main(rt: HostRuntime) -> Result<(), anyhow::Error> {
     let (input, output) = open_streams(rt, file)?;
     match way {
         Way::Plain => serve_at(rt, input, AnsiTerminal::new(alloc, output, size), size),
-        Way::Sparing => serve_at(rt, input, SparingTerminal::new(alloc, output, size), size),
+        Way::Sparing => serve_at(rt, input, PatientTerminal::new(alloc, output, size), size),
         Way::Patient => {
             let terminal = PatientTerminal::new(alloc, output, size);
             serve_at(rt, input.reading_ahead(), terminal, size)

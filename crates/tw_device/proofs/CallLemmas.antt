@@ -1,31 +1,12 @@
--- One more call of a source, and what the calls of a reader of keys come to.
-use Rattle.std.proofs.Common.{◌≡◌, ◌+◌, List, [], ◌∷◌, ◌++◌, Option, Some, None, Result, Ok, Err, IfOk, OnErr, MatchOption, refl, sym, ap, ◌∙◌, subst, append_assoc, append-nil}
+-- What the calls of a reader of keys come to.
+use Rattle.std.proofs.Common.{◌≡◌, ◌+◌, List, [], ◌∷◌, ◌++◌, Option, Some, None, Result, Ok, Err, IfOk, OnErr, MatchOption, sym, ◌∙◌, subst, append-nil}
 use Rattle.tw_input.specs.declared.event.InputEvent.{InputEvent}
 use Rattle.tw_input.specs.EventView.{EventView, event_view}
 use Rattle.tw_terminal.specs.Uses.{Uses}
-use Rattle.tw_lineedit.proofs.UseLemmas.{both_uses}
-use Rattle.tw_device.specs.Calls.{all_events, IsCalled}
+use Rattle.tw_device.specs.Calls.{all_events}
 use Rattle.tw_device.specs.Told.{answer_events}
 use Rattle.tw_device.specs.Typed.{Held, TellsTyped}
 use Rattle.tw_device.proofs.TypedLemmas.{tells_nothing, tells_then}
-
-all_and_more : (parts : List (List EventView)) (events : List EventView) → all_events (parts ++ events ∷ []) ≡ all_events parts ++ events
-all_and_more [] events = append-nil events
-all_and_more (part ∷ parts) events = ap (λ es. part ++ es) (all_and_more parts events) ∙ sym (append_assoc part (all_events parts) events)
-
-module _ {S : Type 0} (told : S → List EventView) (Follows : S → S → List EventView → Type 0) where
-  -- no call
-  pub not_called : (source : S) → IsCalled told Follows source source
-  not_called source = ([], sym (append-nil (told source)), refl)
-
-  -- one more call
-  pub called_more : (old between new : S) (events : List EventView) → IsCalled told Follows old between → Follows between new events
-      → told new ≡ told between ++ events → IsCalled told Follows old new
-  called_more old between new events is follows grown = (
-    is.0 ++ events ∷ [],
-    grown ∙ ap (λ es. es ++ events) is.1 ∙ append_assoc (told old) (all_events is.0) events ∙ ap (λ es. told old ++ es) (sym (all_and_more is.0 events)),
-    both_uses Follows is.0 (events ∷ []) old between new is.2 (new, follows, refl),
-  )
 
 -- what each call of a reader tells is told by them all
 pub calls_tell : {S : Type 0} (told : S → List EventView) (held : S → Held) (parts : List (List EventView)) (old new : S)

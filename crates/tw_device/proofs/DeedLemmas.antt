@@ -1,10 +1,10 @@
 -- Deeds, one after the other, and what they send.
-use Rattle.std.proofs.Common.{◌≡◌, ◌≤◌, ℕ, List, [], ◌∷◌, ◌++◌, Option, Some, None, length, map, refl, sym, ap, ◌∙◌, subst, append_assoc, append-nil, inl, inr, arith}
+use Rattle.std.proofs.Common.{◌≡◌, ◌≤◌, true, ℕ, List, [], ◌∷◌, ◌++◌, Option, Some, None, length, refl, sym, ap, ◌∙◌, subst, append_assoc, append-nil, inl, inr, arith}
 use Rattle.std.proofs.lemmas.Bool.{false≢true}
 use Rattle.std.specs.Io.KnownBytes.{Appends, Keeps}
 use Rattle.std.specs.List.{AllByRecursion}
-use Rattle.tw_input.specs.EventView.{EventView, Key, Resized, Paste, Wake}
-use Rattle.tw_terminal.specs.Uses.{Call, Took, Refused, Other, Uses, IsUsed}
+use Rattle.tw_input.specs.EventView.{Key, Resized, Paste, Wake}
+use Rattle.tw_terminal.specs.Uses.{Took, Refused, Other, Uses}
 use Rattle.tw_ansi.specs.declared.encode.Encoder.{Encoder}
 use Rattle.tw_ansi.specs.Encoding.{sent_batch}
 use Rattle.tw_ansi.specs.EcmaPaintings.{sent_batches}
@@ -12,9 +12,10 @@ use Rattle.tw_ansi.proofs.KnownTerminals.{batch_in}
 use Rattle.tw_terminal.specs.declared.terminal.ScreenSize.{ScreenSize}
 use Rattle.tw_device.specs.Terminal.{terminal_state}
 use Rattle.tw_device.specs.declared.terminal.AnsiTerminal.{AnsiTerminal}
-use Rattle.tw_device.specs.Deeds.{Deed, Called, Sized, Said, sent_deed, sent_by, batches_by, sizes_by, sizes_in, texts_by, Sends, Does, IsLedBy, IsLedAsTold, DeedsAreSent, FailuresAreCounted, LedIsSent}
+use Rattle.tw_device.specs.Deeds.{Deed, Called, Sized, Said, sent_deed, sent_by, batches_by, deeds_of, none_refused, sizes_by, sizes_in, telling, texts_by, Sends, Does, DeedsAreSent, DoneIsSent, FailuresAreCounted, IsDone}
+use Rattle.tw_device.specs.Steps as step
+use Rattle.tw_device.specs.Steps.{Step, batches_in, events_in}
 use Rattle.tw_lineedit.proofs.FailureLemmas.{le_count, rose_once}
-use Rattle.tw_lineedit.proofs.UseLemmas.{both_uses}
 
 -- ---- known bytes
 
@@ -44,33 +45,6 @@ batches-first (Called Refused) deeds = refl
 batches-first (Called Other) deeds = refl
 batches-first (Sized size) deeds = refl
 batches-first (Said text) deeds = refl
-
-sizes_by-both : (first then : List Deed) → sizes_by (first ++ then) ≡ sizes_by first ++ sizes_by then
-sizes_by-both [] then = refl
-sizes_by-both (Called call ∷ first) then = sizes_by-both first then
-sizes_by-both (Sized size ∷ first) then = ap (λ sizes. size ∷ sizes) (sizes_by-both first then)
-sizes_by-both (Said text ∷ first) then = sizes_by-both first then
-
-texts_by-both : (first then : List Deed) → texts_by (first ++ then) ≡ texts_by first ++ texts_by then
-texts_by-both [] then = refl
-texts_by-both (Called call ∷ first) then = texts_by-both first then
-texts_by-both (Sized size ∷ first) then = texts_by-both first then
-texts_by-both (Said text ∷ first) then = ap (λ texts. text ∷ texts) (texts_by-both first then)
-
-sizes_in-both : (first then : List EventView) → sizes_in (first ++ then) ≡ sizes_in first ++ sizes_in then
-sizes_in-both [] then = refl
-sizes_in-both (Key key ∷ first) then = sizes_in-both first then
-sizes_in-both (Resized cols rows ∷ first) then = ap (λ sizes. record { rows = rows; cols = cols } ∷ sizes) (sizes_in-both first then)
-sizes_in-both (Paste text ∷ first) then = sizes_in-both first then
-sizes_in-both (Wake ∷ first) then = sizes_in-both first then
-
-no-texts : (calls : List Call) → texts_by (map Called calls) ≡ []
-no-texts [] = refl
-no-texts (call ∷ calls) = no-texts calls
-
-no-sizes : (calls : List Call) → sizes_by (map Called calls) ≡ []
-no-sizes [] = refl
-no-sizes (call ∷ calls) = no-sizes calls
 
 -- sizes of so many columns
 abbrev AreOf : ℕ → List ScreenSize → Type 0
@@ -188,98 +162,164 @@ module _ {W : Type 0} (contents : W → Option (List ℕ)) where
     failures = omega arith;
   }
 
+-- ---- the deeds of steps
+
+-- calls that render nothing take, give, send and refuse nothing
+telling_takes : (deeds : List Deed) → batches_by (telling deeds) ≡ batches_by deeds
+telling_takes [] = refl
+telling_takes (Called (Took batch) ∷ deeds) = ap (λ all. batch ∷ all) (telling_takes deeds)
+telling_takes (Called Refused ∷ deeds) = telling_takes deeds
+telling_takes (Called Other ∷ deeds) = telling_takes deeds
+telling_takes (Sized size ∷ deeds) = telling_takes deeds
+telling_takes (Said text ∷ deeds) = telling_takes deeds
+
+telling_sizes : (deeds : List Deed) → sizes_by (telling deeds) ≡ sizes_by deeds
+telling_sizes [] = refl
+telling_sizes (Called (Took batch) ∷ deeds) = telling_sizes deeds
+telling_sizes (Called Refused ∷ deeds) = telling_sizes deeds
+telling_sizes (Called Other ∷ deeds) = telling_sizes deeds
+telling_sizes (Sized size ∷ deeds) = ap (λ all. size ∷ all) (telling_sizes deeds)
+telling_sizes (Said text ∷ deeds) = telling_sizes deeds
+
+telling_texts : (deeds : List Deed) → texts_by (telling deeds) ≡ texts_by deeds
+telling_texts [] = refl
+telling_texts (Called (Took batch) ∷ deeds) = telling_texts deeds
+telling_texts (Called Refused ∷ deeds) = telling_texts deeds
+telling_texts (Called Other ∷ deeds) = telling_texts deeds
+telling_texts (Sized size ∷ deeds) = telling_texts deeds
+telling_texts (Said text ∷ deeds) = ap (λ all. text ∷ all) (telling_texts deeds)
+
+telling_sends : (deeds : List Deed) (e : Encoder) → sent_by (telling deeds) e ≡ sent_by deeds e
+telling_sends [] e = refl
+telling_sends (Called (Took batch) ∷ deeds) e =
+    ap (λ s. record { bytes = (sent_batch batch e).bytes ++ s.bytes; next = s.next }) (telling_sends deeds (sent_batch batch e).next)
+telling_sends (Called Refused ∷ deeds) e = telling_sends deeds e
+telling_sends (Called Other ∷ deeds) e = telling_sends deeds e
+telling_sends (Sized size ∷ deeds) e = telling_sends deeds (record e { cols = size.cols })
+telling_sends (Said text ∷ deeds) e =
+    ap (λ s. record { bytes = (sent_deed (Said text) e).bytes ++ s.bytes; next = s.next }) (telling_sends deeds (sent_deed (Said text) e).next)
+
+telling_whole : (deeds : List Deed) → none_refused (telling deeds) ≡ none_refused deeds
+telling_whole [] = refl
+telling_whole (Called (Took batch) ∷ deeds) = telling_whole deeds
+telling_whole (Called Refused ∷ deeds) = refl
+telling_whole (Called Other ∷ deeds) = telling_whole deeds
+telling_whole (Sized size ∷ deeds) = telling_whole deeds
+telling_whole (Said text ∷ deeds) = telling_whole deeds
+
+-- what the deeds of steps take, give, send and refuse
+deeds_take : (steps : List Step) → batches_by (deeds_of steps) ≡ batches_in steps
+deeds_take [] = refl
+deeds_take (step.Took batch ∷ steps) = ap (λ all. batch ∷ all) (deeds_take steps)
+deeds_take (step.Refused ∷ steps) = deeds_take steps
+deeds_take (step.Sent ∷ steps) = deeds_take steps
+deeds_take (step.Flushed ∷ steps) = deeds_take steps
+deeds_take (step.Waited ∷ steps) = deeds_take steps
+deeds_take (step.Told (Key key) ∷ steps) = deeds_take steps
+deeds_take (step.Told (Resized cols rows) ∷ steps) = deeds_take steps
+deeds_take (step.Told (Paste text) ∷ steps) = deeds_take steps
+deeds_take (step.Told Wake ∷ steps) = deeds_take steps
+deeds_take (step.Ended ∷ steps) = deeds_take steps
+deeds_take (step.Failed fault ∷ steps) = deeds_take steps
+
+deeds_size : (steps : List Step) → sizes_by (deeds_of steps) ≡ sizes_in (events_in steps)
+deeds_size [] = refl
+deeds_size (step.Took batch ∷ steps) = deeds_size steps
+deeds_size (step.Refused ∷ steps) = deeds_size steps
+deeds_size (step.Sent ∷ steps) = deeds_size steps
+deeds_size (step.Flushed ∷ steps) = deeds_size steps
+deeds_size (step.Waited ∷ steps) = deeds_size steps
+deeds_size (step.Told (Key key) ∷ steps) = deeds_size steps
+deeds_size (step.Told (Resized cols rows) ∷ steps) = ap (λ all. record { rows = rows; cols = cols } ∷ all) (deeds_size steps)
+deeds_size (step.Told (Paste text) ∷ steps) = deeds_size steps
+deeds_size (step.Told Wake ∷ steps) = deeds_size steps
+deeds_size (step.Ended ∷ steps) = deeds_size steps
+deeds_size (step.Failed fault ∷ steps) = deeds_size steps
+
+deeds_say : (steps : List Step) → texts_by (deeds_of steps) ≡ []
+deeds_say [] = refl
+deeds_say (step.Took batch ∷ steps) = deeds_say steps
+deeds_say (step.Refused ∷ steps) = deeds_say steps
+deeds_say (step.Sent ∷ steps) = deeds_say steps
+deeds_say (step.Flushed ∷ steps) = deeds_say steps
+deeds_say (step.Waited ∷ steps) = deeds_say steps
+deeds_say (step.Told (Key key) ∷ steps) = deeds_say steps
+deeds_say (step.Told (Resized cols rows) ∷ steps) = deeds_say steps
+deeds_say (step.Told (Paste text) ∷ steps) = deeds_say steps
+deeds_say (step.Told Wake ∷ steps) = deeds_say steps
+deeds_say (step.Ended ∷ steps) = deeds_say steps
+deeds_say (step.Failed fault ∷ steps) = deeds_say steps
+
+deeds_whole : (steps : List Step) → none_refused (deeds_of steps) ≡ true
+deeds_whole [] = refl
+deeds_whole (step.Took batch ∷ steps) = deeds_whole steps
+deeds_whole (step.Refused ∷ steps) = deeds_whole steps
+deeds_whole (step.Sent ∷ steps) = deeds_whole steps
+deeds_whole (step.Flushed ∷ steps) = deeds_whole steps
+deeds_whole (step.Waited ∷ steps) = deeds_whole steps
+deeds_whole (step.Told (Key key) ∷ steps) = deeds_whole steps
+deeds_whole (step.Told (Resized cols rows) ∷ steps) = deeds_whole steps
+deeds_whole (step.Told (Paste text) ∷ steps) = deeds_whole steps
+deeds_whole (step.Told Wake ∷ steps) = deeds_whole steps
+deeds_whole (step.Ended ∷ steps) = deeds_whole steps
+deeds_whole (step.Failed fault ∷ steps) = deeds_whole steps
+
+module _ {T : Type 0} (Leads : T → T → Deed → Type 0) (steps : List Step) (old new : T) (done : IsDone Leads (deeds_of steps) old new) where
+  pub done_takes : batches_by done.0 ≡ batches_in steps
+  done_takes = sym (telling_takes done.0) ∙ ap batches_by done.1 ∙ deeds_take steps
+
+  pub done_sizes : sizes_by done.0 ≡ sizes_in (events_in steps)
+  done_sizes = sym (telling_sizes done.0) ∙ ap sizes_by done.1 ∙ deeds_size steps
+
+  pub done_says : texts_by done.0 ≡ []
+  done_says = sym (telling_texts done.0) ∙ ap texts_by done.1 ∙ deeds_say steps
+
 module _ {T : Type 0} (Leads : T → T → Deed → Type 0) where
-  -- ---- what leads a terminal
+  -- deeds that were done, in two parts
+  split_done : (all xs ys : List Deed) (old new : T) → telling all ≡ xs ++ ys → Uses Leads all old new → (mid : T) × IsDone Leads xs old mid × IsDone Leads ys mid new
+  split_done all [] ys old new is uses = (old, ([], refl, refl), (all, is, uses))
+  split_done [] (x ∷ xs) ys old new is uses = absurd (cc is)
+  split_done (Called Other ∷ all) (x ∷ xs) ys old new is (mid, does, uses) =
+      let parts = split_done all (x ∷ xs) ys mid new is uses in
+      (parts.0, (Called Other ∷ parts.1.0, parts.1.1, (mid, does, parts.1.2)), parts.2)
+  split_done (Called (Took batch) ∷ all) (x ∷ xs) ys old new is (mid, does, uses) =
+      let parts = split_done all xs ys mid new (cc is) uses in
+      (parts.0, (Called (Took batch) ∷ parts.1.0, cc (is, parts.1.1), (mid, does, parts.1.2)), parts.2)
+  split_done (Called Refused ∷ all) (x ∷ xs) ys old new is (mid, does, uses) =
+      let parts = split_done all xs ys mid new (cc is) uses in
+      (parts.0, (Called Refused ∷ parts.1.0, cc (is, parts.1.1), (mid, does, parts.1.2)), parts.2)
+  split_done (Sized size ∷ all) (x ∷ xs) ys old new is (mid, does, uses) =
+      let parts = split_done all xs ys mid new (cc is) uses in
+      (parts.0, (Sized size ∷ parts.1.0, cc (is, parts.1.1), (mid, does, parts.1.2)), parts.2)
+  split_done (Said text ∷ all) (x ∷ xs) ys old new is (mid, does, uses) =
+      let parts = split_done all xs ys mid new (cc is) uses in
+      (parts.0, (Said text ∷ parts.1.0, cc (is, parts.1.1), (mid, does, parts.1.2)), parts.2)
 
-  pub led_by_nothing : (it : T) → IsLedBy Leads [] it it
-  led_by_nothing it = ([], refl, refl, refl)
-
-  -- calls that did so besides lead to where they led
-  uses_lead : (Follows : T → T → Call → Type 0) → ((a b : T) (call : Call) → Follows a b call → Leads a b (Called call))
-      → (calls : List Call) (old new : T) → Uses Follows calls old new → Uses (λ a b call. Leads a b (Called call)) calls old new
-  uses_lead Follows leads [] old new same = same
-  uses_lead Follows leads (call ∷ calls) old new (between, follows, uses) =
-      (between, leads old between call follows, uses_lead Follows leads calls between new uses)
-
-  pub used_leads : (Follows : T → T → Call → Type 0) → ((a b : T) (call : Call) → Follows a b call → Leads a b (Called call))
-      → (old new : T) → IsUsed Follows old new → IsUsed (λ a b call. Leads a b (Called call)) old new
-  used_leads Follows leads old new (calls, uses) = (calls, uses_lead Follows leads calls old new uses)
-
-  -- calls alone
-  uses-of-calls : (calls : List Call) (old new : T) → Uses (λ a b call. Leads a b (Called call)) calls old new
-      → Uses Leads (map Called calls) old new
-  uses-of-calls [] old new same = same
-  uses-of-calls (call ∷ calls) old new (between, does, uses) = (between, does, uses-of-calls calls between new uses)
-
-  pub led_by_calls : (old new : T) → IsUsed (λ a b call. Leads a b (Called call)) old new → IsLedBy Leads [] old new
-  led_by_calls old new (calls, uses) = (map Called calls, uses-of-calls calls old new uses, no-sizes calls, no-texts calls)
-
-  -- some events, and then others
-  pub led_then : (first then : List EventView) (old between new : T) → IsLedBy Leads first old between
-      → IsLedBy Leads then between new → IsLedBy Leads (first ++ then) old new
-  led_then first then old between new (first-deeds, first-uses, first-sizes, first-texts) (then-deeds, then-uses, then-sizes, then-texts) = (
-    first-deeds ++ then-deeds,
-    both_uses Leads first-deeds then-deeds old between new first-uses then-uses,
-    sizes_by-both first-deeds then-deeds ∙ ap (λ sizes. sizes ++ sizes_by then-deeds) first-sizes
-        ∙ ap (λ sizes. sizes_in first ++ sizes) then-sizes ∙ sym (sizes_in-both first then),
-    texts_by-both first-deeds then-deeds ∙ ap (λ texts. texts ++ texts_by then-deeds) first-texts ∙ then-texts,
-  )
-
-  -- ---- what leads a terminal while events are told
-
-  -- nothing is told, and the terminal is the same
-  pub led_unmoved : (told : List EventView) (old new : T) → new ≡ old → IsLedAsTold Leads told told old new
-  led_unmoved told old new same = ([], sym (append-nil told), ([], same, refl, refl))
-
-  -- the same terminals
-  pub led_between : (before after : List EventView) (old old-is new new-is : T) → old-is ≡ old → new ≡ new-is
-      → IsLedAsTold Leads before after old-is new-is → IsLedAsTold Leads before after old new
-  led_between before after old old-is new new-is same-old same-new led =
-      subst (λ it. IsLedAsTold Leads before after old it) (sym same-new) (subst (λ it. IsLedAsTold Leads before after it new-is) same-old led)
-
-  -- calls alone
-  pub led_told_nothing : (told : List EventView) (old new : T) → IsUsed (λ a b call. Leads a b (Called call)) old new
-      → IsLedAsTold Leads told told old new
-  led_told_nothing told old new used = ([], sym (append-nil told), led_by_calls old new used)
-
-  -- calls, and then what is told
-  pub led_from_calls : (before after : List EventView) (old between new : T) → IsUsed (λ a b call. Leads a b (Called call)) old between
-      → IsLedAsTold Leads before after between new → IsLedAsTold Leads before after old new
-  led_from_calls before after old between new used (events, told, led) =
-      (events, told, led_then [] events old between new (led_by_calls old between used) led)
-
-  -- what is told, and then calls
-  pub led_to_calls : (before after : List EventView) (old between new : T) → IsLedAsTold Leads before after old between
-      → IsUsed (λ a b call. Leads a b (Called call)) between new → IsLedAsTold Leads before after old new
-  led_to_calls before after old between new (events, told, led) used = (
-    events,
-    told,
-    subst (λ all. IsLedBy Leads all old new) (append-nil events) (led_then events [] old between new led (led_by_calls between new used)),
-  )
-
-  -- more is told
-  pub led_on : (before between after events : List EventView) (old middle new : T) → IsLedAsTold Leads before between old middle
-      → after ≡ between ++ events → IsLedBy Leads events middle new → IsLedAsTold Leads before after old new
-  led_on before between after events old middle new (first, told, led) more later = (
-    first ++ events,
-    more ∙ ap (λ all. all ++ events) told ∙ append_assoc before first events,
-    led_then first events old middle new led later,
-  )
-
-  -- nothing more is told
-  pub led_still : (before between after : List EventView) (old new : T) → IsLedAsTold Leads before between old new
-      → after ≡ between → IsLedAsTold Leads before after old new
-  led_still before between after old new led same = subst (λ told. IsLedAsTold Leads before told old new) (sym same) led
+  pub done_parts : (xs ys : List Deed) (old new : T) → IsDone Leads (xs ++ ys) old new → (mid : T) × IsDone Leads xs old mid × IsDone Leads ys mid new
+  done_parts xs ys old new done = split_done done.0 xs ys old new done.1 done.2
 
 module _ {W : Type 0} (contents : W → Option (List ℕ)) where
-  -- ---- what is written where no other number of columns is told
-
-  pub led_is_sent : LedIsSent contents
-  led_is_sent events old new (deeds, uses, sizes, texts) kept below same =
-      let sent = deeds_are_sent contents deeds old new uses (failures_are_counted contents deeds old new uses kept below) in
-      let is = sent-batches-of deeds old.sent.encoder texts (subst (λ all. AreOf old.sent.encoder.cols all) (sym sizes) same) in (
-        batches_by deeds,
-        sent.2,
+  -- deeds that were done, none of which is a refused batch
+  pub done_sends : (deeds : List Deed) (old new : AnsiTerminal W) → IsDone (Does contents) deeds old new → none_refused deeds ≡ true
+      → ((terminal_state new).batches ≡ (terminal_state old).batches ++ batches_by deeds)
+      × Appends (contents old.writer) (contents new.writer) (sent_by deeds old.sent.encoder).bytes
+      × (new.sent.encoder ≡ (sent_by deeds old.sent.encoder).next)
+  done_sends deeds old new done whole =
+      let sent = deeds_are_sent contents done.0 old new done.2 (sym (telling_whole done.0) ∙ ap none_refused done.1 ∙ whole) in
+      let is : sent_by done.0 old.sent.encoder ≡ sent_by deeds old.sent.encoder = sym (telling_sends done.0 old.sent.encoder) ∙ ap (λ all. sent_by all old.sent.encoder) done.1 in (
+        sent.2 ∙ ap (λ all. (terminal_state old).batches ++ all) (sym (telling_takes done.0) ∙ ap batches_by done.1),
         subst (λ s. Appends (contents old.writer) (contents new.writer) s.bytes) is sent.0,
         sent.1 ∙ ap (λ s. s.next) is,
+      )
+
+  pub done_is_sent : DoneIsSent contents
+  done_is_sent steps old new done same =
+      let deeds = deeds_of steps in
+      let sent = done_sends deeds old new done (deeds_whole steps) in
+      let is : sent_by deeds old.sent.encoder ≡ sent_batches (batches_in steps) old.sent.encoder =
+      sent-batches-of deeds old.sent.encoder (deeds_say steps) (subst (λ all. AreOf old.sent.encoder.cols all) (sym (deeds_size steps)) same)
+      ∙ ap (λ all. sent_batches all old.sent.encoder) (deeds_take steps) in (
+        sent.0 ∙ ap (λ all. (terminal_state old).batches ++ all) (deeds_take steps),
+        subst (λ s. Appends (contents old.writer) (contents new.writer) s.bytes) is sent.1,
+        sent.2 ∙ ap (λ s. s.next) is,
       )

@@ -1,8 +1,9 @@
-pub mod AskedLemmas
 pub mod CallLemmas
 pub mod DeedLemmas
-pub mod LedLemmas
+pub mod InTimeLemmas
+pub mod JoinedLemmas
 pub mod LiveLemmas
 pub mod PieceLemmas
 pub mod ReadLemmas
+pub mod StepLemmas
 pub mod TypedLemmas

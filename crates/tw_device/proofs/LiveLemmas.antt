@@ -1,7 +1,7 @@
 -- A line that is fed what a source tells, against the run.
-use Rattle.std.proofs.Common.{◌≡◌, ◌≢◌, ◌+◌, length, arith, IfOk, OnOk, IfErr, ℕ, List, [], ◌∷◌, ◌++◌, cond, Bool, true, false, refl, sym, ◌∙◌, ap, subst, inl, inr, Option, None, Some, String, Result, Ok, Err}
+use Rattle.std.proofs.Common.{◌≡◌, ◌≢◌, IfOk, IfErr, ℕ, List, [], ◌∷◌, ◌++◌, cond, Bool, true, false, refl, sym, ◌∙◌, ap, subst, inl, inr, Option, None, Some, String, Result, Ok, Err}
 use Rattle.std.proofs.lemmas.Bool.{false≢true}
-use Rattle.std.proofs.lemmas.List.{append-nil, append_assoc, length-append}
+use Rattle.std.proofs.lemmas.List.{append-nil, append_assoc, append_cancel_left}
 use Rattle.std.specs.declared.alloc.Global.{Global}
 use Rattle.tw_surface.specs.PaintingBatches.{clear_batch}
 use Rattle.tw_input.specs.EventView.{EventView, Key, Resized, Paste, Wake}
@@ -15,15 +15,17 @@ use Rattle.tw_lineedit.specs.declared.Overrides.{Overrides}
 use Rattle.tw_lineedit.specs.Painting.{Rendering}
 use Rattle.tw_lineedit.specs.Outcomes.{Outcome, outcome_of, answer_at, line_in, is_over, is_open}
 use Rattle.tw_lineedit.specs.Refusal.{Refusal, refusal_of}
-use Rattle.tw_lineedit.specs.Feeding.{paint_end, painted_run, fed_run, run_on, Begins, begun_run, WantsToBegin, FaultsToBegin, FailsToBegin, IsFed, event_run, WantsToFeed, FaultsToFeed, FailsToFeed, FailsToFinish, Uncopied}
+use Rattle.tw_lineedit.specs.Feeding.{status_if, paint_end, painted_run, fed_run, run_on, Begins, begun_run, WantsToBegin, FaultsToBegin, FailsToBegin, IsFed, event_run, WantsToFeed, FaultsToFeed, FailsToFeed, FailsToFinish, Uncopied}
+use Rattle.tw_lineedit.specs.declared.editor.feeding.LineStatus.TheVariants.{Open}
 use Rattle.tw_lineedit.specs.Reading.{start, Reads, FailsIn, HaltsIn, HaltsRefused, ClosesBadly, final_moment}
 use Rattle.tw_lineedit.specs.Run.{Progress, Ending, Moment, Cause, want, fault, run, ends, ending, at_no_event, moment, progress_of, painting_at, after_taking, after_resolution, after_action, state_after, after_event, CanStop, Quiet, CanMiss, CanRefuse, unresolved, unapplied, half_cleared, missed, CanStopAt, refused, later, CanStopOn, uncopied, taking, at_painting}
 use Rattle.tw_lineedit.specs.SessionView.{SessionView}
 use Rattle.tw_lineedit.specs.declared.Error.{Error}
 use Rattle.tw_lineedit.specs.declared.Error.TheVariants.{Memory, Terminal}
 use Rattle.tw_lineedit.proofs.FeedingLemmas.{open_goes_on}
-use Rattle.tw_device.specs.Live.{resized_frame, frame_of, Opens, WaitsAfter, ComesBy, FailsFrom, FailsBy, FailsOver, FailsTold, ReadsTold, run_over, IsRead, StopsFeeding, answer_from}
+use Rattle.tw_device.specs.Live.{resized_frame, frame_of, Opens, WaitsAfter, ComesBy, FailsFrom, FailsBy, FailsOver, FailsTold, ReadsTold, run_over, IsRead, StopsOn, StopsFeeding, answer_from}
 use Rattle.tw_device.specs.Live as live
+use Rattle.tw_device.specs.Steps.{Step, state_in, events_in}
 use Rattle.tw_device.specs.declared.keys.SourceState.{SourceState}
 use Rattle.tw_device.specs.declared.reading.Answer.{Answer}
 use Rattle.tw_device.specs.declared.reading.Stop.{Stop}
@@ -35,6 +37,19 @@ size_twice (Key key) z = refl
 size_twice (Resized cols rows) z = refl
 size_twice (Paste text) z = refl
 size_twice Wake z = refl
+
+-- a line that takes more events is open
+pub still_open : (is_open : Bool) → status_if is_open ≡ Open → is_open ≡ true
+still_open true is = refl
+still_open false is = absurd (cc is)
+
+-- why no more events are fed, after some
+pub stops_by : (stop : Stop) (is_open : Bool) (old new : List Step) (told : List EventView) → StopsOn (Some stop) is_open old new
+    → StopsFeeding stop is_open (state_in new) told (events_in new)
+stops_by Ended is_open old new told stops = stops
+stops_by source_end is_open old new told stops = stops
+stops_by (source_fault why) is_open old new told stops = stops
+stops_by Endless is_open old new told stops = absurd stops
 
 module _ {V : Type 0} where
   -- a progress of this size
@@ -284,40 +299,36 @@ module _ {V : Type 0} (rules : HostRules V) (overrides : Overrides) where
   pub resized_is : (e : EventView) (f : Frame V) (t u : TerminalState) → (let r : TerminalState = record u { size = size_after e u.size } in t ≡ r) → u ≡ f.terminal → (let r : Frame V = record f { terminal = t } in r ≡ resized_frame e f)
   resized_is e f t u tu uf = ap (λ (y : TerminalState). let r : Frame V = record f { terminal = y } in r) (tu ∙ ap (λ (y : TerminalState). let r : TerminalState = record y { size = size_after e y.size } in r) uf)
 
-  -- how an event that is fed last is answered
-  pub comes_if : (A : Type 0) (answer : Result A Error) (e : EventView) (f h k : Frame V) → is_open f.state.mode ≡ true → h ≡ resized_frame e f → (is_open h.state.mode ≡ true → OnOk answer (IsFed rules overrides e h k)) → OnOk answer (WaitsAfter rules overrides (e ∷ []) f k)
-  comes_if A (Ok x) e f h k o hf t = comes_fed e f h k o hf t
-  comes_if A (Err x) e f h k o hf t = tt
-
-  -- and refused
-  pub refused_if : (A : Type 0) (answer : Result A Error) (e : EventView) (f h k : Frame V) → is_open f.state.mode ≡ true → f.terminal.events ≡ [] → h ≡ resized_frame e f → IfErr answer (FailsToFeed rules overrides e h k) → IfErr answer (FailsFrom rules overrides (e ∷ []) f k)
-  refused_if A (Ok x) e f h k o none hf r = tt
-  refused_if A (Err x) e f h k o none hf r = refused_fed e f h k x o none hf r
-
   -- what the source told
 
-  -- one event more
-  told_one : (old mid new xs : List EventView) (e : EventView) → mid ≡ old ++ xs → new ≡ mid ++ e ∷ [] → new ≡ old ++ (xs ++ e ∷ [])
-  told_one old mid new xs e a b = b ∙ ap (λ (ys : List EventView). ys ++ e ∷ []) a ∙ append_assoc old xs (e ∷ [])
+  -- nothing more is told
+  pub comes_still : (old new : List EventView) (f g : Frame V) → g ≡ f → new ≡ old → ComesBy rules overrides old new f g
+  comes_still old new f g same told = subst (λ (h : Frame V). ComesBy rules overrides old new f h) (sym same)
+      ([], told ∙ sym (append-nil old), record { run = λ later. refl; stops = λ c later m can. can; quiet = record { flushed = refl; failures = refl }; left = refl })
 
-  -- one event more is fed
-  pub comes_by_one : (old mid new : List EventView) (e : EventView) (f g h : Frame V) → ComesBy rules overrides old mid f g → new ≡ mid ++ e ∷ []
-      → WaitsAfter rules overrides (e ∷ []) g h → ComesBy rules overrides old new f h
-  comes_by_one old mid new e f g h (xs, told, a) more b = (
-    xs ++ e ∷ [],
-    told_one old mid new xs e told more,
+  -- an open line is fed more
+  pub comes_then : (old mid new : List EventView) (f g h : Frame V) → ComesBy rules overrides old mid f g → ComesBy rules overrides mid new g h → ComesBy rules overrides old new f h
+  comes_then old mid new f g h (xs, told, a) (ys, more, b) = (
+    xs ++ ys,
+    more ∙ ap (λ (es : List EventView). es ++ ys) told ∙ append_assoc old xs ys,
     record {
-      run = λ later. ap (λ (es : List EventView). run_on rules es (progress_of f)) (append_assoc xs (e ∷ []) later) ∙ a.run (e ∷ later) ∙ b.run later;
-      stops = λ c later m can. subst (λ (es : List EventView). CanStopOn rules overrides c es (progress_of f) m) (sym (append_assoc xs (e ∷ []) later)) (a.stops c (e ∷ later) m (b.stops c later m can));
+      run = λ later. ap (λ (es : List EventView). run_on rules es (progress_of f)) (append_assoc xs ys later) ∙ a.run (ys ++ later) ∙ b.run later;
+      stops = λ c later m can. subst (λ (es : List EventView). CanStopOn rules overrides c es (progress_of f) m) (sym (append_assoc xs ys later)) (a.stops c (ys ++ later) m (b.stops c later m can));
       quiet = record { flushed = b.quiet.flushed ∙ a.quiet.flushed; failures = b.quiet.failures ∙ a.quiet.failures };
       left = b.left ∙ a.left;
     },
   )
 
-  -- one event more, by which feeding fails
-  pub fails_by_one : (old mid new : List EventView) (e : EventView) (f g h : Frame V) (x : Error) → ComesBy rules overrides old mid f g → new ≡ mid ++ e ∷ []
-      → FailsFrom rules overrides (e ∷ []) g h x → FailsBy rules overrides old new f h x
-  fails_by_one old mid new e f g h x (xs, told, a) more r = (xs ++ e ∷ [], told_one old mid new xs e told more, refused_on xs (e ∷ []) f g h x a r)
+  -- and feeding fails
+  pub fails_then_by : (old mid new : List EventView) (f g h : Frame V) (x : Error) → ComesBy rules overrides old mid f g → FailsBy rules overrides mid new g h x → FailsBy rules overrides old new f h x
+  fails_then_by old mid new f g h x (xs, told, a) (ys, more, r) =
+      (xs ++ ys, more ∙ ap (λ (es : List EventView). es ++ ys) told ∙ append_assoc old xs ys, refused_on xs ys f g h x a r)
+
+  -- what is taken from there on
+  pub taken_from : (old mid : List EventView) (f g : Frame V) → ComesBy rules overrides old mid f g → (xs : List EventView) → mid ≡ old ++ xs
+      → (seen : List EventView) → (run_on rules seen (progress_of g)).taken ≡ (run_on rules (xs ++ seen) (progress_of f)).taken
+  taken_from old mid f g (came, told, a) xs is seen =
+      ap (λ (end : Ending V). end.taken) (sym (a.run seen)) ∙ ap (λ (es : List EventView). (run_on rules (es ++ seen) (progress_of f)).taken) (append_cancel_left old came xs (sym told ∙ is))
 
   -- a line that was begun, fed and ended
 
@@ -416,11 +427,3 @@ module _ {V : Type 0} (rules : HostRules V) (overrides : Overrides) where
   -- the line was not begun
   pub unbegun_at : (old : List EventView) (state : SourceState) (f : Frame V) (s : SessionView) (v : V) (t : TerminalState) (k : Frame V) → frame_of s v t ≡ k → (x : Error) (i : Frame V) → i.terminal.events ≡ [] → f ≡ start None i → FailsToBegin rules None i k x → live.FailsToReadTold rules overrides old old state f v t x
   unbegun_at old state f s v t k at x i none fi r = back old old state f s v t k at x (fails_first old f k x (unopened_at i f k k x none fi refl r))
-
-  -- a line is closed
-  pub closed_at : (h k : Frame V) (s : SessionView) (v : V) (t : TerminalState) (answer : Outcome) → frame_of s v t ≡ k → Reads (ending (answer_at h.state) h) h k answer → Reads (ending (answer_at h.state) h) h (frame_of s v t) answer
-  closed_at h k s v t answer at r = subst (λ (y : Frame V). Reads (ending (answer_at h.state) h) h y answer) (sym at) r
-
-  -- how many events were told
-  pub counted : (old mid new : List EventView) (e : EventView) (n : ℕ) → length mid ≡ length old + n → new ≡ mid ++ e ∷ [] → length new ≡ length old + (n + 1)
-  counted old mid new e n a b = ap (λ (xs : List EventView). length xs) b ∙ length-append mid (e ∷ []) ∙ omega (arith, a)

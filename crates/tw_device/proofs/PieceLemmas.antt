@@ -16,7 +16,7 @@ use Rattle.tw_ansi.proofs.Pieces.{stays_found}
 use Rattle.tw_ansi.proofs.Tokens.{takes_bytes}
 use Rattle.tw_device.specs.declared.pasted.Pasted.{Pasted}
 use Rattle.tw_device.specs.Told.{token_events, pasted_text}
-use Rattle.tw_device.specs.Typed.{Held, Step, Came, Took, Lead, next_token, escape_waits, is_lone_escape, held_after_read, held_after_token, given_bytes, told_by, events_of}
+use Rattle.tw_device.specs.Typed.{Held, ReadStep, Came, Took, Lead, next_token, escape_waits, is_lone_escape, held_after_read, held_after_token, given_bytes, told_by, events_of}
 use Rattle.tw_device.specs.Pieces.{times, IsKnown, PiecesDoNotMatter}
 use Rattle.tw_device.specs.declared.escape.Escape.TheVariants.{Waits}
 use Rattle.tw_device.proofs.TypedLemmas.{found_at, none_is_lost}
@@ -226,7 +226,7 @@ one_at_once : (pasted : Pasted) (n : ℕ) (bytes : List ℕ) (s : Scanned) → t
     → events_of pasted (times (suc n) (Took true)) bytes ≡ token_events pasted s.token bytes ++ events_of pasted (times n (Took true)) (drop s.used bytes)
 one_at_once pasted n bytes s found = ap (λ o. told_by pasted o bytes (events_of pasted (times n (Took true)))) found
 
-told_at_once : (steps : List Step) (old new : Held) (events : List EventView) (n : ℕ) → Lead steps old new events → old.escape ≡ Waits → IsKnown old.left → new.unread ≡ []
+told_at_once : (steps : List ReadStep) (old new : Held) (events : List EventView) (n : ℕ) → Lead steps old new events → old.escape ≡ Waits → IsKnown old.left → new.unread ≡ []
     → length (old.unread ++ given_bytes steps) ≤ n → events ≡ events_of old.pasted (times n (Took true)) (old.unread ++ given_bytes steps)
 told_at_once [] old new events n g waits known empty fits =
     let nothing : old.unread ++ [] ≡ [] = append-nil old.unread ∙ sym (ap (λ (h : Held). h.unread) g.0) ∙ empty in

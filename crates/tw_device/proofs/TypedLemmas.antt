@@ -9,7 +9,7 @@ use Rattle.tw_ansi.specs.declared.token.Token.{Token}
 use Rattle.tw_ansi.specs.declared.token.Token.TheVariants.{Key, Size, Paste, Unknown}
 use Rattle.tw_ansi.specs.KeyBytes.{token_at}
 use Rattle.tw_device.specs.Told.{token_events}
-use Rattle.tw_device.specs.Typed.{Held, Step, Came, Took, Lead, TellsIn, TellsTyped, next_token, is_at_hand, is_event_in, is_key_or_paste, escape_waits, is_lone_escape, held_after_read, held_after_token, given_bytes, taken_by, told_by, taken_bytes, events_of, NoneIsLost, IsHeldUp, IsPasted}
+use Rattle.tw_device.specs.Typed.{Held, ReadStep, Came, Took, Lead, TellsIn, TellsTyped, next_token, is_at_hand, is_event_in, is_key_or_paste, escape_waits, is_lone_escape, held_after_read, held_after_token, given_bytes, taken_by, told_by, taken_bytes, events_of, NoneIsLost, IsHeldUp, IsPasted}
 use Rattle.tw_device.specs.declared.escape.Escape.{Escape}
 use Rattle.tw_device.specs.declared.pasted.Pasted.{Pasted}
 use Rattle.tw_terminal.specs.declared.terminal.TerminalFault.{TerminalFault}
@@ -58,14 +58,14 @@ none_at_hand first now is_last there goes_on same wanted =
     false≢true (ap is_event_in (wanted ∙ ap (λ l. next_token l now) goes_on ∙ ap (next_token false) same) ∙ there)
 
 -- what is left may be told by what was known of it before
-lead_kept : (steps : List Step) (left : Option (List ℕ)) (old new : Held) (events : List EventView)
+lead_kept : (steps : List ReadStep) (left : Option (List ℕ)) (old new : Held) (events : List EventView)
     → Keeps left old.left → Lead steps old new events → Lead steps (record old { left = left }) new events
 lead_kept [] left old new events k g = (g.0, Keeps-trans left old.left new.left k g.1, g.2)
 lead_kept (Came more ∷ steps) left old new events k g = (g.0, (g.1.0, kept_consumes left old.left g.1.0 more k g.1.1, g.1.2))
 lead_kept (Took is_last ∷ steps) left old new events k g =
     (λ last. kept_end left old.left k (g.0 last), (g.1.0, g.1.1, (g.1.2.0, g.1.2.1, lead_kept steps left (held_after_token g.1.0.used old) new g.1.2.0 k g.1.2.2)))
 
-lead_then : (steps more : List Step) (a b c : Held) (e f : List EventView) → Lead steps a b e → Lead more b c f → Lead (steps ++ more) a c (e ++ f)
+lead_then : (steps more : List ReadStep) (a b c : Held) (e f : List EventView) → Lead steps a b e → Lead more b c f → Lead (steps ++ more) a c (e ++ f)
 lead_then [] more a b c e f g h =
     subst (λ x. Lead more a c x) (ap (λ x. x ++ f) (sym g.2))
     (lead_kept more a.left (record a { left = b.left }) c f g.1 (subst (λ x. Lead more x c f) g.0 h))

@@ -1,5 +1,5 @@
 -- What is done to a terminal at a device, deed by deed, and what a terminal over a writer sends for it.
-use Rattle.std.specs.Prelude.{◌≡◌, ◌≢◌, ◌≤◌, ℕ, Bool, true, false, List, [], ◌∷◌, ◌++◌, Option}
+use Rattle.std.specs.Prelude.{◌≡◌, ◌≢◌, ◌≤◌, ℕ, Bool, true, false, List, [], ◌∷◌, ◌++◌, map, Option}
 use Rattle.std.specs.List.{list_all, AllByRecursion}
 use Rattle.std.specs.Io.KnownBytes.{Appends}
 use Rattle.tw_surface.specs.ChangeView.{Batch}
@@ -12,6 +12,8 @@ use Rattle.tw_ansi.specs.declared.encode.Encoder.{Encoder}
 use Rattle.tw_ansi.specs.Encoding.{Sent, sends, sent_then, sent_batch, without_attributes}
 use Rattle.tw_ansi.specs.EcmaPaintings.{sent_batches}
 use Rattle.tw_ansi.specs.Sequences.{set_attributes}
+use Rattle.tw_device.specs.Steps as step
+use Rattle.tw_device.specs.Steps.{Step, batches_in, events_in}
 use Rattle.tw_device.specs.Terminal.{terminal_state}
 use Rattle.tw_device.specs.declared.terminal.AnsiTerminal.{AnsiTerminal}
 
@@ -76,14 +78,26 @@ is_whole _ = true
 abbrev pub none_refused : List Deed → Bool
 none_refused deeds = list_all is_whole deeds
 
-module _ {T : Type 0} (Leads : T → T → Deed → Type 0) where
-  -- Calls, and the sizes that these events tell, and nothing else, lead from the one to the other.
-  abbrev pub IsLedBy : List EventView → T → T → Type 0
-  IsLedBy events old new = (deeds : List Deed) × Uses Leads deeds old new × (sizes_by deeds ≡ sizes_in events) × (texts_by deeds ≡ [])
+-- the deeds of steps at the terminal: batches, and the sizes that events tell
+abbrev pub deeds_of : List Step → List Deed
+deeds_of [] = []
+deeds_of (step.Took batch ∷ steps) = Called (Took batch) ∷ deeds_of steps
+deeds_of (step.Told event ∷ steps) = map Sized (sizes_in (event ∷ [])) ++ deeds_of steps
+deeds_of (_ ∷ steps) = deeds_of steps
 
-  -- These events were told since, and it was led by them.
-  abbrev pub IsLedAsTold : List EventView → List EventView → T → T → Type 0
-  IsLedAsTold told_before told_after old new = (events : List EventView) × (told_after ≡ told_before ++ events) × IsLedBy events old new
+-- deeds without the calls that render nothing
+abbrev pub telling : List Deed → List Deed
+telling [] = []
+telling (Called Other ∷ deeds) = telling deeds
+telling (deed ∷ deeds) = deed ∷ telling deeds
+
+-- these deeds were done to the terminal, and calls that render nothing
+abbrev pub IsDone : {T : Type 0} → (T → T → Deed → Type 0) → List Deed → T → T → Type 0
+IsDone Does deeds old new = (all : List Deed) × (telling all ≡ deeds) × Uses Does all old new
+
+-- The size that an event tells is set, if it tells one, and nothing else is done.
+abbrev pub IsSizedBy : {T : Type 0} → (T → T → Deed → Type 0) → EventView → T → T → Type 0
+IsSizedBy Does event old new = Uses Does (map Sized (sizes_in (event ∷ []))) old new
 
 module _ {W : Type 0} (contents : W → Option (List ℕ)) where
   -- The bytes of the deed are appended to what is written, and no other; what is known is what is known after them; and
@@ -97,6 +111,7 @@ module _ {W : Type 0} (contents : W → Option (List ℕ)) where
   -- A batch is refused, which is counted. What is written is not told, and what is known is as before.
   pub record FailsToSend (old new : AnsiTerminal W) : Type 0 where
     pub known : new.sent.encoder ≡ old.sent.encoder
+    pub batches : (terminal_state new).batches ≡ (terminal_state old).batches
     pub failures : new.sent.failures ≡ count_up old.sent.failures
 
   -- such a deed leads from the one to the other
@@ -120,12 +135,11 @@ module _ {W : Type 0} (contents : W → Option (List ℕ)) where
   FailuresAreCounted = (deeds : List Deed) (old new : AnsiTerminal W) → Uses Does deeds old new
       → new.sent.failures ≡ old.sent.failures → old.sent.failures ≢ usize_max → none_refused deeds ≡ true
 
-  -- Where no failure was counted, and one could have been, and no event told another number of columns, what was
-  -- written is what was there, and then the bytes of the batches that were taken since.
-  abbrev pub LedIsSent : Type 0
-  LedIsSent = (events : List EventView) (old new : AnsiTerminal W) → IsLedBy Does events old new
-      → new.sent.failures ≡ old.sent.failures → old.sent.failures ≢ usize_max
-      → AllByRecursion (λ size. size.cols ≡ old.sent.encoder.cols) (sizes_in events)
-      → (batches : List Batch) × ((terminal_state new).batches ≡ (terminal_state old).batches ++ batches)
-      × Appends (contents old.writer) (contents new.writer) (sent_batches batches old.sent.encoder).bytes
-      × (new.sent.encoder ≡ (sent_batches batches old.sent.encoder).next)
+  -- So of the deeds of steps, where no event told another number of columns: what was written is what was there, and
+  -- then the bytes of the batches that were taken.
+  abbrev pub DoneIsSent : Type 0
+  DoneIsSent = (steps : List Step) (old new : AnsiTerminal W) → IsDone Does (deeds_of steps) old new
+      → AllByRecursion (λ size. size.cols ≡ old.sent.encoder.cols) (sizes_in (events_in steps))
+      → ((terminal_state new).batches ≡ (terminal_state old).batches ++ batches_in steps)
+      × Appends (contents old.writer) (contents new.writer) (sent_batches (batches_in steps) old.sent.encoder).bytes
+      × (new.sent.encoder ≡ (sent_batches (batches_in steps) old.sent.encoder).next)

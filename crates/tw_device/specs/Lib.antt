@@ -1,10 +1,12 @@
-pub mod Asked
 pub mod Calls
 pub mod Deeds
+pub mod Joined
+pub mod JoinedLaws
 pub mod Keys
-pub mod Led
 pub mod Live
+pub mod Noted
 pub mod Pieces
+pub mod Steps
 pub mod Terminal
 pub mod Told
 pub mod Typed

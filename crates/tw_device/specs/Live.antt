@@ -1,6 +1,7 @@
--- A line that is read from events that nobody knows before they come.
+-- A line that is read from a live source.
 use Rattle.std.specs.Prelude.{◌≡◌, ◌≢◌, ℕ, [], ◌+◌, ◌++◌, ◌⊎◌, length, Bool, true, false, List, Option, Some, None, Result, Ok, Err, String, string_bytes}
 use Rattle.std.specs.declared.alloc.Global.{Global}
+use Rattle.tw_surface.specs.ChangeView.{Batch}
 use Rattle.tw_input.specs.EventView.{EventView}
 use Rattle.tw_terminal.specs.TerminalState.{TerminalState, size_after}
 use Rattle.tw_terminal.specs.declared.terminal.TerminalFault.TheVariants.{Device}
@@ -15,6 +16,7 @@ use Rattle.tw_lineedit.specs.Run.{Ending, Moment, Cause, want, fault, run, progr
 use Rattle.tw_lineedit.specs.SessionView.{SessionView, new_state}
 use Rattle.tw_lineedit.specs.declared.Error.{Error}
 use Rattle.tw_lineedit.specs.declared.Error.TheVariants.{EndOfFile, Terminal}
+use Rattle.tw_device.specs.Steps.{Step, state_in, events_in}
 use Rattle.tw_device.specs.declared.keys.SourceState.{SourceState}
 use Rattle.tw_device.specs.declared.keys.SourceState.TheVariants.{AtEnd, Refused}
 use Rattle.tw_device.specs.declared.reading.Answer.{Answer}
@@ -49,7 +51,13 @@ StopsFeeding source_end is_open state old new = (is_open ≡ true) × (state ≡
 StopsFeeding (source_fault why) is_open state old new = (is_open ≡ true) × (state ≡ Refused why)
 StopsFeeding Endless is_open state old new = (is_open ≡ true) × IsEndless old new
 
--- what a line that was fed so is
+-- why no more events are fed after one was asked for, if so
+abbrev pub StopsOn : Option Stop → Bool → List Step → List Step → Type 0
+StopsOn None is_open old new = (is_open ≡ true) × (length (events_in new) ≡ length (events_in old) + 1)
+StopsOn (Some Endless) is_open old new = ⊥
+StopsOn (Some stop) is_open old new = StopsFeeding stop is_open (state_in new) [] []
+
+-- the answer of a fed line, by why feeding stopped
 abbrev pub answer_from : Option (String Global) → Stop → Result Answer Error
 answer_from line (source_fault why) = Err (Terminal why)
 answer_from line Endless = Err (Terminal Device)
@@ -72,7 +80,7 @@ module _ {V : Type 0} where
   abbrev pub fresh_frame : List ℕ → V → TerminalState → Frame V
   fresh_frame prompt v t = start None (record { state = record new_state { prompt = prompt }; value = v; mark = None; terminal = t })
 
-  -- An editor's parts are not told any more: some state and some mark.
+  -- The editor is gone: P holds of some state and some mark.
   abbrev pub Left : V → TerminalState → (Frame V → Type 0) → Type 0
   Left v t P = (s : SessionView) × P (frame_of s v t)
 
@@ -84,6 +92,14 @@ module _ {V : Type 0} (rules : HostRules V) where
   -- the abstract editor's run from f over these events
   abbrev pub run_over : List EventView → Frame V → Ending V
   run_over events f = run rules events (progress_of f)
+
+  -- the batches that are taken by the run from f over these events
+  abbrev pub taken_over : Frame V → List EventView → List Batch
+  taken_over f events = (run_over events f).taken
+
+  -- and by the run from a painting of f on
+  abbrev pub taken_on : Frame V → List EventView → List Batch
+  taken_on f events = (run_on rules events (progress_of f)).taken
 
   -- The events that were told, and no other, are those of the run: its answer, its batches with the closing one, all
   -- flushed, its size and the host's value are what is there; and whether an event ended it.
@@ -141,9 +157,9 @@ module _ {V : Type 0} (rules : HostRules V) (overrides : Overrides) where
       ⊎ ((IsCutShort old new state e × Left v t (λ g. (answer : Outcome) × ReadsTold rules old new f g answer false))
       ⊎ (IsMemory e × (new ≡ old) × (v ≡ f.value) × (t ≡ f.terminal)))
 
-  -- What an answer says: a line was read, and closed so; or the action EndOfFile ended the input, with an empty line.
-  abbrev pub IsToldAnswer : List EventView → List EventView → SourceState → Frame V → V → TerminalState → Type 0 → Answer → Type 0
-  IsToldAnswer old new state f v t closed answer = (IsRead rules old new state f v t answer × closed)
+  -- What an answer says: a line was read; or the action EndOfFile ended the input, with an empty line.
+  abbrev pub IsToldAnswer : List EventView → List EventView → SourceState → Frame V → V → TerminalState → Answer → Type 0
+  IsToldAnswer old new state f v t answer = IsRead rules old new state f v t answer
       ⊎ (IsEmptyEnd answer × FailsToReadTold old new state f v t EndOfFile)
 
   -- what a refusal leaves that is not the end of the input

@@ -1,12 +1,12 @@
 -- Where an ESC alone waits, what is told of some bytes does not depend on how they came.
 use Rattle.std.specs.Prelude.{◌≡◌, ℕ, zero, suc, List, [], ◌∷◌, ◌++◌, length, Option, Some, None, true, ⊤}
 use Rattle.tw_input.specs.EventView.{EventView}
-use Rattle.tw_device.specs.Typed.{Held, Step, Took, Lead, given_bytes, events_of}
+use Rattle.tw_device.specs.Typed.{Held, ReadStep, Took, Lead, given_bytes, events_of}
 use Rattle.tw_device.specs.declared.escape.Escape.TheVariants.{Waits}
 use Rattle.tw_device.specs.declared.pasted.Pasted.{Pasted}
 
 -- so many times the same step
-abbrev pub times : ℕ → Step → List Step
+abbrev pub times : ℕ → ReadStep → List ReadStep
 times zero step = []
 times (suc n) step = step ∷ times n step
 
@@ -21,6 +21,6 @@ IsKnown (Some bytes) = ⊤
 
 -- A reader that waits after an ESC, and takes all bytes that came, tells what they tell at once, wherever it paused.
 abbrev pub PiecesDoNotMatter : Type 0
-PiecesDoNotMatter = (steps : List Step) (old new : Held) (events : List EventView) → Lead steps old new events
+PiecesDoNotMatter = (steps : List ReadStep) (old new : Held) (events : List EventView) → Lead steps old new events
     → old.escape ≡ Waits → IsKnown old.left → new.unread ≡ []
     → events ≡ events_at_once old.pasted (old.unread ++ given_bytes steps)

@@ -70,13 +70,13 @@ abbrev pub held_after_token : ℕ → Held → Held
 held_after_token used held = record held { unread = drop used held.unread }
 
 -- a step of reading: these bytes came, or the token at the front was taken, as one of the last bytes or not
-pub data Step : Type 0 where
-  Came : List ℕ → Step
-  Took : Bool → Step
+pub data ReadStep : Type 0 where
+  Came : List ℕ → ReadStep
+  Took : Bool → ReadStep
 
 -- Such steps lead from the one to the other, and tell these events. Bytes are read only where more are wanted for a
 -- token, and a token is taken as one of the last bytes only where nothing is left to be read.
-abbrev pub Lead : List Step → Held → Held → List EventView → Type 0
+abbrev pub Lead : List ReadStep → Held → Held → List EventView → Type 0
 Lead [] old new events = (new ≡ record old { left = new.left }) × Keeps old.left new.left × (events ≡ [])
 Lead (Came more ∷ steps) old new events =
     (next_token false old ≡ None) × ((left : Option (List ℕ)) × Consumes old.left left more
@@ -88,7 +88,7 @@ Lead (Took is_last ∷ steps) old new events =
 
 -- so many steps lead from the one to the other, and tell these events
 abbrev pub TellsIn : ℕ → Held → Held → List EventView → Type 0
-TellsIn count old new events = (steps : List Step) × (length steps ≡ count) × Lead steps old new events
+TellsIn count old new events = (steps : List ReadStep) × (length steps ≡ count) × Lead steps old new events
 
 -- some steps do
 abbrev pub TellsTyped : Held → Held → List EventView → Type 0
@@ -113,7 +113,7 @@ IsHeldUp Device old new = (next_token false new ≡ None) ⊎ TellsIn most_steps
 IsHeldUp Memory old new = (next_token false new ≡ None) ⊎ HasPaste new
 
 -- the bytes that came
-abbrev pub given_bytes : List Step → List ℕ
+abbrev pub given_bytes : List ReadStep → List ℕ
 given_bytes [] = []
 given_bytes (Came more ∷ steps) = more ++ given_bytes steps
 given_bytes (Took is_last ∷ steps) = given_bytes steps
@@ -129,20 +129,20 @@ told_by pasted (Some s) bytes told_behind = token_events pasted s.token bytes ++
 told_by pasted None bytes told_behind = []
 
 -- the bytes that are taken, from these on
-abbrev pub taken_bytes : List Step → List ℕ → List ℕ
+abbrev pub taken_bytes : List ReadStep → List ℕ → List ℕ
 taken_bytes [] unread = []
 taken_bytes (Came more ∷ steps) unread = taken_bytes steps (unread ++ more)
 taken_bytes (Took is_last ∷ steps) unread = taken_by (token_at is_last unread) unread (taken_bytes steps)
 
 -- the events of these bytes, by where reading them paused
-abbrev pub events_of : Pasted → List Step → List ℕ → List EventView
+abbrev pub events_of : Pasted → List ReadStep → List ℕ → List EventView
 events_of pasted [] unread = []
 events_of pasted (Came more ∷ steps) unread = events_of pasted steps (unread ++ more)
 events_of pasted (Took is_last ∷ steps) unread = told_by pasted (token_at is_last unread) unread (events_of pasted steps)
 
 -- Such steps lose no byte and make none, what came is what the reader gave, and what is told is the events of it.
 abbrev pub NoneIsLost : Type 0
-NoneIsLost = (steps : List Step) (old new : Held) (events : List EventView) → Lead steps old new events
+NoneIsLost = (steps : List ReadStep) (old new : Held) (events : List EventView) → Lead steps old new events
     → (old.unread ++ given_bytes steps ≡ taken_bytes steps old.unread ++ new.unread)
     × Consumes old.left new.left (given_bytes steps)
     × (events ≡ events_of old.pasted steps old.unread)

@@ -1,49 +1,43 @@
-//! A terminal at a device: its events are fed to the editor, its owner gives it its size, and sends what is no line's.
+//! A device: a terminal at which is typed.
 
-ghost use Rattle.std.specs.Prelude.{◌≡◌, [], OnOk, false};
-ghost use Rattle.tw_terminal.specs.Uses.{Call, Other};
-ghost use Rattle.tw_device.specs.Deeds.{Called, Said, Sized};
+ghost use Rattle.std.specs.Prelude.{◌≡◌, []};
+ghost use Rattle.tw_terminal.specs.Uses.{Call};
+ghost use Rattle.tw_device.specs.Steps.{Asks, NotesCalls};
 
-use tw_terminal::{ScreenSize, Terminal, TerminalFault};
+use tw_input::InputEvent;
+use tw_terminal::{Terminal, TerminalFault};
 
-/// A terminal at a device, at which a line is read. What is done to it are deeds: the calls of `Terminal`, the sizes
-/// that its owner gives it, and the texts that its owner sends.
-pub trait DeviceTerminal: Terminal {
-    ghost use Rattle.std.specs.Prelude.{Bool};
-    ghost use Rattle.tw_device.specs.Deeds.{Deed};
+/// A terminal and a reader in one. What is shown and what is typed are steps of one log, in their order. It has no event
+/// of its own: a reading feeds its editor what `next_event` tells.
+pub trait Device: Terminal {
+    ghost use Rattle.std.specs.Prelude.{List};
+    ghost use Rattle.tw_device.specs.Steps.{Seen, Step};
 
-    // What a deed did: from such a terminal to such a one.
-    ghost does: { Self → Self → Deed → Type 0 };
+    ghost log: { Self → List Step };
 
-    // Whether it may keep back what it is to render.
-    ghost may_keep: { Self → Bool };
+    // What calls and answers did besides, from such a device to such a one: the device's own law.
+    ghost law: { Self → Self → Type 0 };
 
-    /// Sets the size, which nothing else changes.
-    fn set_screen_size(&mut self, size: ScreenSize)
-        ensures state { Self.state self.new ≡ record (Self.state self.old) { size = size } }
-        ensures sized { does self.old self.new (Sized size) };
-
-    /// Says whether another event is at hand. As long as one is, a terminal may keep back what it is to render. If none
-    /// is, it sends what it renders next.
-    fn set_more_at_hand(&mut self, is_more: bool)
-        ensures state { Self.state self.new ≡ Self.state self.old }
-        ensures last { is_more ≡ false → may_keep self.new ≡ false }
-        ensures called { does self.old self.new (Called Other) };
-
-    /// Sends a text of its owner's as it is, after a reset of all attributes: a line may have ended in some. The text
-    /// has to leave the cursor in column 0, and no attribute set. A refusal may have sent a beginning.
-    fn send(&mut self, text: &str) -> Result<(), TerminalFault>
-        ensures kept { Self.state self.new ≡ Self.state self.old }
-        ensures said { OnOk result (does self.old self.new (Said text.now)) };
+    /// Returns the next event, or `None` if there are no more. A `Resized` sets the size that `get_screen_size` returns.
+    /// All that was taken is sent before it waits. If that is refused, so is the call, and nothing is read.
+    fn next_event(&mut self) -> Result<Option<InputEvent>, TerminalFault>
+        ensures asks { Asks result
+            (record { terminal = Self.state self.old; log = log self.old })
+            (record { terminal = Self.state self.new; log = log self.new }) }
+        ensures law { law self.old self.new };
 
     // It has no event of its own.
     ghost no_event: { (it : Self) → (Self.state it).events ≡ [] };
 
-    // What a call of `Terminal` did besides is its deed.
-    ghost call_does: { (old new : Self) (call : Call) → Self.follows old new call
-        → does old new (Called call) };
+    // A call of `Terminal` notes what was taken, refused, sent and flushed, and keeps the law.
+    ghost call_notes: { (old new : Self) (call : Call) → Self.follows old new call
+        → NotesCalls (record { terminal = Self.state old; log = log old })
+        (record { terminal = Self.state new; log = log new }) };
 
-    // After a call of `Terminal` it may keep something back only where it might before.
-    ghost call_keeps: { (old new : Self) (call : Call) → Self.follows old new call → may_keep old
-        ≡ false → may_keep new ≡ false };
+    ghost call_law: { (old new : Self) (call : Call) → Self.follows old new call → law old new };
+
+    // The law holds where nothing was done, and of what was done one after the other.
+    ghost law_stays: { (it : Self) → law it it };
+
+    ghost law_joins: { (old between new : Self) → law old between → law between new → law old new };
 }

@@ -1,4 +1,4 @@
-//! Events that nobody knows before they come.
+//! Sources of live events, and the reader of typed bytes.
 
 ghost use Rattle.std.specs.Prelude.{◌≡◌, ◌≤◌, ◌==◌, ◌++◌, ◌∷◌, ℕ, [], List, length, drop, true, false, IfSome, IfOk, IfErr, OnOk, OnErr, MatchOption, ⊤};
 ghost use Rattle.std.specs.Io.KnownBytes.{Consumes, IsAtEnd, Keeps};
@@ -91,7 +91,7 @@ pub struct KeyReader<R> {
 }
 
 impl<R: Read> KeyReader<R> {
-    /// Creates a reader for which an ESC alone is the key Escape at once and a pasted text has one row.
+    /// Creates a reader with `Escape::AtOnce` and `Pasted::OneRow`.
     pub fn new(alloc: Global, reader: R) -> Self
         ensures told { ⟦<KeyReader<R> as EventSource>⟧.told result ≡ [] }
         ensures going { ⟦<KeyReader<R> as EventSource>⟧.state result ≡ Going }

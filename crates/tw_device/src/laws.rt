@@ -1,16 +1,15 @@
 //! Laws of the types of this crate, each the contract of a function that does nothing.
 
 ghost use Rattle.tw_input.specs.Equality.{ComparesValues};
-ghost use Rattle.tw_device.specs.Deeds.{DeedsAreSent, Does, FailuresAreCounted, LedIsSent};
-ghost use Rattle.tw_device.specs.Led.{AlongIsLed};
+ghost use Rattle.tw_device.specs.Deeds.{DeedsAreSent, DoneIsSent, FailuresAreCounted};
+ghost use Rattle.tw_device.specs.Keys.{AskedIsTyped};
 ghost use Rattle.tw_device.specs.Pieces.{PiecesDoNotMatter};
-ghost use Rattle.tw_device.specs.Terminal.{terminal_state};
 ghost use Rattle.tw_device.specs.Typed.{NoneIsLost};
 
 use crate::escape::Escape;
 use crate::keys::SourceState;
 use crate::pasted::Pasted;
-use std::io::Write;
+use std::io::{Read, Write};
 
 /// `==` is equality of values.
 pub fn equality()
@@ -19,8 +18,8 @@ pub fn equality()
     ensures escapes { ComparesValues ⟦<Escape as PartialEq>⟧.eq }
 {}
 
-/// No byte is lost and none is made: those that were not taken, and then those that came, are those that are taken and
-/// then those that are not taken at last; what came is what the reader gave; and what is told is the events of it.
+/// Unread bytes plus bytes read equal bytes taken plus bytes left unread. What was read is what the reader gave, and the
+/// events are those of the bytes taken.
 #[tactic(auto, using(crate::proofs::TypedLemmas::none_is_lost))]
 pub fn typing()
     ensures { NoneIsLost }
@@ -33,12 +32,16 @@ pub fn pieces()
     ensures { PiecesDoNotMatter }
 {}
 
+/// What calls of a reader of keys told is what its bytes tell, one call after the other, and no byte is lost (`typing`).
+pub fn typed<R: Read>()
+    ensures { AskedIsTyped R.remaining }
+{}
+
 /// What is written is what was written before, and then the bytes of the deeds one after the other, where no batch was
-/// refused; none was where no failure was counted. So a reading whose events tell no other number of columns has
-/// written the bytes of the batches that it took. What is led along a run is led by its events.
+/// refused; none was where no failure was counted. So of steps whose events tell no other number of columns a terminal
+/// has written the bytes of the batches that were taken.
 pub fn deeds<W: Write>()
     ensures sent { DeedsAreSent W.contents }
     ensures counted { FailuresAreCounted W.contents }
-    ensures led { LedIsSent W.contents }
-    ensures along { AlongIsLed terminal_state (Does W.contents) }
+    ensures done { DoneIsSent W.contents }
 {}

@@ -15,7 +15,7 @@ pub enum Pasted {
 }
 
 impl Pasted {
-    /// Returns what stands for a character behind `before`, or `None` for the LF of a CR LF, for which its CR stands.
+    /// Returns the replacement of a character after `before`, or `None` for the LF of CR LF.
     fn told(self, before: char, character: char) -> Option<char>
         ensures { MatchOption result (pasted_character self before character ≡ [])
             (λ c. pasted_character self before character ≡ c ∷ []) }

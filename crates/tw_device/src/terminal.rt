@@ -1,4 +1,4 @@
-//! A terminal over a writer. Its events are not its own affair: they are fed to the editor.
+//! A terminal over a writer. It has no input: the caller feeds events to the editor.
 
 ghost use Rattle.std.specs.Io.KnownBytes.{Appends, Keeps};
 ghost use Rattle.std.specs.Prelude.{◌≡◌, ◌++◌, [], Ok, None, IfErr, IfOk, OnOk, OnErr, false, refl, string_bytes};
@@ -13,7 +13,7 @@ ghost use Rattle.tw_device.specs.Deeds.{Called, Does, Said, Sized};
 ghost use Rattle.tw_device.specs.Terminal.{terminal_state};
 
 use crate::batch_record::{BatchRecord, encode_batch, write_text};
-use crate::device::DeviceTerminal;
+use crate::device_terminal::DeviceTerminal;
 use std::alloc::Global;
 use std::io::Write;
 use tw_input::InputEvent;
@@ -149,7 +149,15 @@ impl<W: Write> DeviceTerminal for AnsiTerminal<W> {
 
     ghost call_does = { λ old new call follows. follows };
 
-    ghost call_keeps = { λ old new call follows keeps. refl };
+    ghost keeps = { λ it. false };
+
+    ghost took_settles = { λ old new batch follows more. refl };
+
+    ghost call_settles = { λ old new call follows none kept. refl };
+
+    ghost flush_settles = { λ old new follows more. refl };
+
+    ghost refused_takes_none = { λ old new follows. follows.batches };
 
     fn set_screen_size(&mut self, size: ScreenSize) {
         AnsiTerminal::set_screen_size(self, size);
@@ -159,6 +167,14 @@ impl<W: Write> DeviceTerminal for AnsiTerminal<W> {
     fn set_more_at_hand(&mut self, _: bool)
         ensures kept { self.new ≡ self.old }
     {}
+
+    /// Changes nothing, and is never refused.
+    fn settle(&mut self) -> Result<(), TerminalFault>
+        ensures ok { result ≡ Ok tt }
+        ensures kept { self.new ≡ self.old }
+    {
+        Ok(())
+    }
 
     fn send(&mut self, text: &str) -> Result<(), TerminalFault> {
         AnsiTerminal::send(self, text)

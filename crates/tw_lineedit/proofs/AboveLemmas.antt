@@ -10,7 +10,7 @@ use Rattle.tw_surface.specs.Paintings.{Mark, Painting, painting, mark_of}
 use Rattle.tw_surface.specs.Pictures.{Picture, cells_cleared_from, play_char, play_text, play_all}
 use Rattle.tw_surface.specs.Positions.{at_least_0}
 use Rattle.tw_surface.proofs.TextCursor.{text-row}
-use Rattle.laws_screens.proofs.SceneLists.{first_painting}
+use Rattle.laws_screens.proofs.PlainStations.{first_painting}
 use Rattle.tw_terminal.specs.TerminalState.{TerminalState, Renders, RenderFails}
 use Rattle.tw_terminal.specs.declared.terminal.ScreenSize.{ScreenSize}
 use Rattle.tw_terminal.specs.declared.terminal.TerminalFault.{TerminalFault}

@@ -50,9 +50,9 @@ module _ {V : Type 0} (rules : HostRules V) where
         × IsSameAbove w (first_row rules before.row (earlier ++ station ∷ [])) before shown
     fresh_there =
         let scenes = map-append (sized_scene rules) earlier (station ∷ []) in
-        let q = every_painting w before.row (map (sized_scene rules) earlier) (sized_scene rules station) [] before h.two_columns refl h.at_start (rw scenes at h.plain) in
+        let q = every_painting w before.row (map (sized_scene rules) earlier) (sized_scene rules station) before h.two_columns refl h.at_start (rw scenes at h.plain) in
         let played = played-is rules (comes_plainly h) in
-        (rw (played, scenes) q.1, rw (played, scenes) q.2)
+        (rw (played, scenes) q.0, rw (played, scenes) q.1)
 
     -- and the closing batch of these scenes ends below it
     pub closed_there : IsClosed w (last_row w (first_row rules before.row (earlier ++ station ∷ [])) (sized_scene rules station).scene) shown

@@ -1,1 +1,3 @@
 pub mod JoinedLemmas
+pub mod LedLemmas
+pub mod PlaceLemmas

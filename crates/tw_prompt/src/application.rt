@@ -3,16 +3,19 @@
 ghost use Rattle.std.specs.Prelude.{◌≡◌};
 ghost use Rattle.tw_input.specs.EventView.{event_view};
 ghost use Rattle.tw_terminal.specs.TerminalState.{size_after};
+ghost use Rattle.tw_device.specs.Joined.{LeadsOn};
 
 use crate::line_ends::with_line_ends;
 use std::alloc::{AllocError, Global};
-use tw_device::{Answer, DeviceTerminal, EventSource};
+use tw_device::{Answer, Device, DeviceTerminal, EventSource, Joined};
 use tw_input::{InputEvent, KeyCode, KeyEvent};
 use tw_key_parts::KeyPart;
 use tw_line::{History, LentLines};
-use tw_lineedit::{CompletionCandidate, Error, LineEditBuffer, LineEditor, LineStatus};
+use tw_lineedit::{
+    CompletionCandidate, Error, LineEditBuffer, LineEditor, LineEditorHost, LineStatus,
+};
 use tw_prompt_host::{PreparedHost, PreparedLines, PromptHost, StyledRange, Validation};
-use tw_terminal::{ScreenSize, TerminalFault};
+use tw_terminal::{Terminal, TerminalFault};
 
 /// What an application knows of its lines. Each function has a plain default body. Ranges are cut to what fits, and the
 /// text that is shown is the line's. A candidate whose range is not one of the line ends the reading with
@@ -51,27 +54,15 @@ pub trait Application {
     }
 }
 
-/// Sets the terminal's size if an event tells a new one.
-fn resize<T: DeviceTerminal>(terminal: &mut T, event: &InputEvent)
-    ensures { let before = T.state terminal.old in
-        let size = size_after (event_view event.now) before.size in
-        T.state terminal.new ≡ record before { size = size } }
-{
-    if let InputEvent::Resized { cols, rows } = event {
-        terminal.set_screen_size(ScreenSize {
-            rows: *rows,
-            cols: *cols,
-        });
-    }
-}
-
 /// Asks for the colours of the line, and whether it may be accepted.
-fn prepare_line<A: Application, T: DeviceTerminal, L, K>(
+fn prepare_line<A: Application, T: Terminal, L, K>(
     alloc: Global,
     application: &A,
     editor: &mut LineEditor<'_, T>,
     host: &mut PromptHost<PreparedHost, L, K, PreparedLines>,
-) -> Result<(), Error> {
+) -> Result<(), Error>
+    ensures terminal { editor.new.terminal ≡ editor.old.terminal }
+{
     let (line, cursor) = editor.get_line_and_cursor();
     host.host.ranges = application.colours(alloc, line, cursor)?;
     host.host.line = String::from_str(alloc, line)?;
@@ -80,42 +71,16 @@ fn prepare_line<A: Application, T: DeviceTerminal, L, K>(
     Ok(())
 }
 
-/// Asks for what completes the line.
-fn prepare_candidates<A: Application, T: DeviceTerminal>(
+/// Asks for what completes the line, before a Tab.
+fn prepare_candidates<A: Application, T: Terminal>(
     alloc: Global,
     application: &A,
     editor: &mut LineEditor<'_, T>,
     host: &mut PreparedHost,
-) -> Result<(), Error> {
-    let (line, cursor) = editor.get_line_and_cursor();
-    host.candidates = application.complete(alloc, line, cursor)?;
-    host.asked = LineEditBuffer::new(alloc, line, cursor)?;
-    Ok(())
-}
-
-/// Paints the line as it is prepared, below the application's news.
-fn show<A: Application, T: DeviceTerminal, L: History + LentLines, K: KeyPart>(
-    alloc: Global,
-    application: &mut A,
-    editor: &mut LineEditor<'_, T>,
-    host: &mut PromptHost<PreparedHost, L, K, PreparedLines>,
-) -> Result<LineStatus, Error> {
-    let news = application.news(alloc)?;
-    if news.is_empty() {
-        return editor.feed(host, &InputEvent::Wake);
-    }
-    editor.print_above(host, with_line_ends(alloc, news.as_str(), "\r\n")?.as_str())
-}
-
-/// Feeds an event, and paints the line in its colours.
-fn feed<A: Application, T: DeviceTerminal, L: History + LentLines, K: KeyPart>(
-    alloc: Global,
-    application: &mut A,
-    editor: &mut LineEditor<'_, T>,
-    host: &mut PromptHost<PreparedHost, L, K, PreparedLines>,
     event: &InputEvent,
-    is_more: bool,
-) -> Result<LineStatus, Error> {
+) -> Result<(), Error>
+    ensures terminal { editor.new.terminal ≡ editor.old.terminal }
+{
     if let InputEvent::Key(
         KeyEvent {
             key: KeyCode::Tab,
@@ -123,27 +88,74 @@ fn feed<A: Application, T: DeviceTerminal, L: History + LentLines, K: KeyPart>(
         },
     ) = event
     {
-        prepare_candidates(alloc, application, editor, &mut host.host)?;
+        let (line, cursor) = editor.get_line_and_cursor();
+        host.candidates = application.complete(alloc, line, cursor)?;
+        host.asked = LineEditBuffer::new(alloc, line, cursor)?;
     }
-    editor.terminal().set_more_at_hand(true);
-    resize(editor.terminal(), event);
-    match editor.feed(host, event)? {
+    Ok(())
+}
+
+/// Paints the line as it is prepared, below the application's news.
+fn show<A: Application, S: EventSource, T: DeviceTerminal, L: History + LentLines, K: KeyPart>(
+    alloc: Global,
+    application: &mut A,
+    editor: &mut LineEditor<'_, Joined<S, T>>,
+    host: &mut PromptHost<PreparedHost, L, K, PreparedLines>,
+) -> Result<LineStatus, Error>
+    ensures same_reference { editor.new.terminal.ghost_name ≡ editor.old.terminal.ghost_name }
+    ensures law { LeadsOn S.told S.follows T.state T.keeps T.does editor.old.terminal.now
+        editor.new.terminal.now }
+{
+    let news = application.news(alloc)?;
+    if news.is_empty() {
+        return editor.feed(host, &InputEvent::Wake);
+    }
+    editor.print_above(host, with_line_ends(alloc, news.as_str(), "\r\n")?.as_str())
+}
+
+/// Feeds an event. Its painting may be kept back, since another one follows at once.
+fn feed_held<S: EventSource, T: DeviceTerminal, H: LineEditorHost>(
+    editor: &mut LineEditor<'_, Joined<S, T>>,
+    host: &mut H,
+    event: &InputEvent,
+) -> Result<LineStatus, Error>
+    requires { size_after (event_view event.now) (T.state editor.old.terminal.now.terminal).size
+        ≡ (T.state editor.old.terminal.now.terminal).size }
+    ensures same_reference { editor.new.terminal.ghost_name ≡ editor.old.terminal.ghost_name }
+    ensures law { LeadsOn S.told S.follows T.state T.keeps T.does editor.old.terminal.now
+        editor.new.terminal.now }
+{
+    editor.terminal().holds = true;
+    let fed = editor.feed(host, event);
+    editor.terminal().holds = false;
+    fed
+}
+
+/// Feeds an event, and paints the line in its colours.
+fn feed<A: Application, S: EventSource, T: DeviceTerminal, L: History + LentLines, K: KeyPart>(
+    alloc: Global,
+    application: &mut A,
+    editor: &mut LineEditor<'_, Joined<S, T>>,
+    host: &mut PromptHost<PreparedHost, L, K, PreparedLines>,
+    event: &InputEvent,
+) -> Result<LineStatus, Error>
+    requires { size_after (event_view event.now) (T.state editor.old.terminal.now.terminal).size
+        ≡ (T.state editor.old.terminal.now.terminal).size }
+    ensures same_reference { editor.new.terminal.ghost_name ≡ editor.old.terminal.ghost_name }
+    ensures law { LeadsOn S.told S.follows T.state T.keeps T.does editor.old.terminal.now
+        editor.new.terminal.now }
+{
+    prepare_candidates(alloc, application, editor, &mut host.host, event)?;
+    match feed_held(editor, host, event)? {
         LineStatus::Ended => Ok(LineStatus::Ended),
         LineStatus::Open => {
             prepare_line(alloc, application, editor, host)?;
-            editor.terminal().set_more_at_hand(is_more);
             show(alloc, application, editor, host)
         }
     }
 }
 
-/// Closes the line. Returns it, or `None` if it was cancelled.
-fn close<T: DeviceTerminal>(editor: &mut LineEditor<'_, T>) -> Result<Option<String>, Error> {
-    editor.terminal().set_more_at_hand(false);
-    editor.finish_line()
-}
-
-/// Feeds the events of a source to an open line, up to the end of either. Returns true if the source ended.
+/// Feeds the events of a device to an open line, up to the end of either. Returns true if there are no more events.
 fn take_events<
     A: Application,
     S: EventSource,
@@ -153,28 +165,64 @@ fn take_events<
 >(
     alloc: Global,
     application: &mut A,
-    events: &mut S,
-    editor: &mut LineEditor<'_, T>,
+    editor: &mut LineEditor<'_, Joined<S, T>>,
     host: &mut PromptHost<PreparedHost, L, K, PreparedLines>,
-) -> Result<bool, Error> {
+) -> Result<bool, Error>
+    ensures same_reference { editor.new.terminal.ghost_name ≡ editor.old.terminal.ghost_name }
+    ensures law { LeadsOn S.told S.follows T.state T.keeps T.does editor.old.terminal.now
+        editor.new.terminal.now }
+{
     prepare_line(alloc, application, editor, host)?;
     for _ in 0..u64::MAX {
-        let Some(event) = events.next_event()? else {
+        let Some(event) = editor.terminal().next_event()? else {
             return Ok(true);
         };
-        match feed(
-            alloc,
-            application,
-            editor,
-            host,
-            &event,
-            events.has_at_hand(),
-        )? {
+        match feed(alloc, application, editor, host, &event)? {
             LineStatus::Open => {}
             LineStatus::Ended => return Ok(false),
         }
     }
     Err(Error::Terminal(TerminalFault::Device))
+}
+
+/// Returns what a reading answers, by whether there were no more events, and by the line.
+fn answer_of(
+    alloc: Global,
+    taken: Result<bool, Error>,
+    closed: Result<Option<String>, Error>,
+) -> Result<Answer, Error> {
+    match taken {
+        Err(Error::EndOfFile) => Ok(Answer::End(String::new(alloc))),
+        Err(refused) => Err(refused),
+        Ok(at_end) => Ok(match (closed?, at_end) {
+            (None, _) => Answer::Cancelled,
+            (Some(line), false) => Answer::Line(line),
+            (Some(line), true) => Answer::End(line),
+        }),
+    }
+}
+
+/// Reads a line with this editor.
+fn read_events<
+    A: Application,
+    S: EventSource,
+    T: DeviceTerminal,
+    L: History + LentLines,
+    K: KeyPart,
+>(
+    alloc: Global,
+    application: &mut A,
+    editor: &mut LineEditor<'_, Joined<S, T>>,
+    host: &mut PromptHost<PreparedHost, L, K, PreparedLines>,
+) -> Result<Answer, Error>
+    ensures same_reference { editor.new.terminal.ghost_name ≡ editor.old.terminal.ghost_name }
+    ensures law { LeadsOn S.told S.follows T.state T.keeps T.does editor.old.terminal.now
+        editor.new.terminal.now }
+{
+    editor.begin_line(host, None)?;
+    let taken = take_events(alloc, application, editor, host);
+    let closed = editor.finish_line();
+    answer_of(alloc, taken, closed)
 }
 
 /// Reads a line with a new editor, as `read_line_from` of `tw_device` does, and asks the application between two
@@ -191,24 +239,13 @@ pub fn read_with<
 >(
     alloc: Global,
     application: &mut A,
-    events: &mut S,
-    terminal: &mut T,
+    device: &mut Joined<S, T>,
     host: &mut PromptHost<PreparedHost, L, K, PreparedLines>,
     prompt: &str,
-) -> Result<Answer, Error> {
-    let mut editor = LineEditor::new(alloc, terminal)?;
+) -> Result<Answer, Error>
+    ensures law { LeadsOn S.told S.follows T.state T.keeps T.does device.old device.new }
+{
+    let mut editor = LineEditor::new(alloc, device)?;
     editor.set_prompt(prompt)?;
-    editor.terminal().set_more_at_hand(false);
-    editor.begin_line(host, None)?;
-    let taken = take_events(alloc, application, events, &mut editor, host);
-    let closed = close(&mut editor);
-    match taken {
-        Err(Error::EndOfFile) => Ok(Answer::End(String::new(alloc))),
-        Err(refused) => Err(refused),
-        Ok(at_end) => Ok(match (closed?, at_end) {
-            (None, _) => Answer::Cancelled,
-            (Some(line), false) => Answer::Line(line),
-            (Some(line), true) => Answer::End(line),
-        }),
-    }
+    read_events(alloc, application, &mut editor, host)
 }

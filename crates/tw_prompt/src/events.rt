@@ -9,7 +9,6 @@ ghost use Rattle.tw_prompt.specs.Joined.{Moves, Piece, Pieced, is_pending, is_jo
 
 use crate::joined::{character_in, fitted, key_of_character};
 use crate::streams::TerminalInput;
-use crate::typed::{PIECE, Typed};
 use std::alloc::Global;
 use std::io::Read;
 use std::time::Clock;
@@ -17,6 +16,7 @@ use tw_device::{EventLog, EventSource, KeyReader, Pasted, SourceState};
 use tw_input::InputEvent;
 use tw_prompt_host::gives_up;
 use tw_terminal::TerminalFault;
+use tw_typed::{PIECE, Typed};
 
 /// What is held back behind a run of characters.
 #[derive(Debug, Drop)]

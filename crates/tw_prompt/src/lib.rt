@@ -37,7 +37,6 @@ mod plain;
 mod prompt;
 mod sizes;
 mod streams;
-mod typed;
 mod words;
 
 pub use application::{Application, read_with};
@@ -52,5 +51,5 @@ pub use pictures::{visible, visible_rows};
 pub use prompt::{Prompt, PromptTerminal};
 pub use sizes::{fitting, usable};
 pub use streams::{LastError, TerminalInput, TerminalOutput, open_streams};
-pub use typed::Typed;
+pub use tw_typed::Typed;
 pub use words::WordBefore;

@@ -1,5 +1,11 @@
 //! A prompt in a program: lines are read at its terminal, or plainly at a pipe.
 
+ghost use Rattle.std.specs.Prelude.{◌≡◌, string_bytes, IfOk};
+ghost use Rattle.tw_device.specs.Joined.{seen_of};
+ghost use Rattle.tw_device.specs.Steps.{IsPrompt};
+ghost use Rattle.tw_prompt_host.specs.Going.{going_at_rest};
+ghost use Rattle.tw_prompt.specs.Places.{accepted_in, line_begun, seen_in, IsReadAndKept, IsRemembered, IsReadFrom, IsReadIn, StaysPrompt};
+
 use crate::application::{Application, read_with};
 use crate::arguments::Arguments;
 use crate::error::PromptError;
@@ -11,7 +17,7 @@ use crate::plain::PlainLine;
 use crate::streams::{LastError, TerminalInput, TerminalOutput, open_streams};
 use std::alloc::Global;
 use std::io::Write;
-use tw_device::{Answer, DeviceTerminal, Pasted, read_line_from};
+use tw_device::{Answer, DeviceTerminal, Joined, Pasted, read_line_from};
 use tw_key_parts::KeyPart;
 use tw_line::{BasicHistory, History, LentLines};
 use tw_lineedit::{Error, LineEditorHost};
@@ -25,8 +31,7 @@ const COLS: usize = 80;
 /// A terminal in raw mode.
 #[derive(Drop)]
 struct TerminalPlace<T> {
-    events: TypedEvents<TerminalInput, HostRuntime>,
-    terminal: T,
+    device: Joined<TypedEvents<TerminalInput, HostRuntime>, T>,
     errors: LastError,
     /// True while the terminal is asked to mark pasted texts and to tell its sizes.
     marks: bool,
@@ -65,20 +70,26 @@ impl<T: DeviceTerminal> TerminalPlace<T> {
     }
 
     /// Sends a text.
-    fn send(&mut self, text: &str) -> Result<(), PromptError> {
-        let sent = self.terminal.send(text);
+    fn send(&mut self, text: &str) -> Result<(), PromptError>
+        ensures { seen_of T.state self.new.device ≡ seen_of T.state self.old.device }
+    {
+        let sent = self.device.terminal.send(text);
         sent.map_err(|fault| self.refusal(Error::Terminal(fault)))
     }
 
     /// Asks the terminal to mark pasted texts, and to tell its sizes.
-    fn begin(&mut self) -> Result<(), PromptError> {
+    fn begin(&mut self) -> Result<(), PromptError>
+        ensures { seen_of T.state self.new.device ≡ seen_of T.state self.old.device }
+    {
         let _told = self.errors.take();
         self.marks = true;
         self.send(BEGIN)
     }
 
     /// Asks the terminal to do neither any more, if it was asked to.
-    fn end(&mut self) -> Result<(), PromptError> {
+    fn end(&mut self) -> Result<(), PromptError>
+        ensures { seen_of T.state self.new.device ≡ seen_of T.state self.old.device }
+    {
         if self.marks {
             self.send(END)?;
             self.marks = false;
@@ -92,10 +103,18 @@ impl<T: DeviceTerminal> TerminalPlace<T> {
         alloc: Global,
         host: &mut H,
         prompt: &str,
-    ) -> Result<Answer, PromptError> {
+    ) -> Result<Answer, PromptError>
+        ensures ok { let line = line_begun H.rules H.OVERRIDES prompt.now (H.value host.old) in
+            IfOk result (IsReadFrom line (seen_of T.state self.old.device)
+            (seen_of T.state self.new.device) (H.value host.new)) }
+        ensures prompt { IsPrompt (seen_of T.state self.old.device)
+            → IsPrompt (seen_of T.state self.new.device) }
+    {
         self.begin()?;
-        let answer = read_line_from(alloc, &mut self.events, &mut self.terminal, host, prompt);
-        answer.map_err(|error| self.refusal(error))
+        match read_line_from(alloc, &mut self.device, host, prompt) {
+            Ok(answer) => Ok(answer),
+            Err(error) => Err(self.refusal(error)),
+        }
     }
 
     /// Reads a line with the functions of an application.
@@ -105,16 +124,12 @@ impl<T: DeviceTerminal> TerminalPlace<T> {
         application: &mut A,
         host: &mut PromptHost<PreparedHost, L, K, PreparedLines>,
         prompt: &str,
-    ) -> Result<Answer, PromptError> {
+    ) -> Result<Answer, PromptError>
+        ensures { IsPrompt (seen_of T.state self.old.device)
+            → IsPrompt (seen_of T.state self.new.device) }
+    {
         self.begin()?;
-        let answer = read_with(
-            alloc,
-            application,
-            &mut self.events,
-            &mut self.terminal,
-            host,
-            prompt,
-        );
+        let answer = read_with(alloc, application, &mut self.device, host, prompt);
         answer.map_err(|error| self.refusal(error))
     }
 }
@@ -212,8 +227,7 @@ impl<
         host.screen.cols = size.cols;
         let place = Place::Terminal(TerminalPlace {
             errors: input.errors()?,
-            events: PromptEvents::new(rt.alloc(), input, rt),
-            terminal,
+            device: Joined::new(PromptEvents::new(rt.alloc(), input, rt), terminal),
             marks: false,
         });
         Ok(Prompt {
@@ -226,17 +240,35 @@ impl<
 
     /// Forgets what the last line left, and lets pasted texts keep their rows if the host shows rows. Returns the
     /// prompt.
-    fn begin_line(&mut self) -> Result<String, PromptError> {
+    fn begin_line(&mut self) -> Result<String, PromptError>
+        ensures place { seen_in T.state self.new.place.value
+            ≡ seen_in T.state self.old.place.value }
+        ensures remembers { self.new.remembers ≡ self.old.remembers }
+        ensures begun { let host = ⟦<PromptHost<H, L, K, V> as LineEditorHost>⟧ in
+            host.value self.new.host.value ≡ record (host.value self.old.host.value) {
+              keys = K.keys.leaves (K.state self.old.host.value.keys);
+              going = going_at_rest;
+            } }
+        ensures prompt { IfOk result (λ prompt. string_bytes prompt
+            ≡ string_bytes self.old.host.value.screen.prompt) }
+    {
         self.host.begin_line();
         if let Place::Terminal(place) = &mut *self.place {
-            place.events.set_pasted(pasted_for(&self.host.rows));
+            place.device.source.set_pasted(pasted_for(&self.host.rows));
         }
         Ok(self.host.screen.prompt.clone()?)
     }
 
     /// Ends a reading: the terminal marks nothing any more, and an accepted line goes into the history. If the terminal
     /// refuses, the line is answered all the same, and `close` asks once more.
-    fn end_line(&mut self, answer: Result<Answer, PromptError>) -> Result<Answer, PromptError> {
+    fn end_line(&mut self, answer: Result<Answer, PromptError>) -> Result<Answer, PromptError>
+        ensures answer { result ≡ answer }
+        ensures place { seen_in T.state self.new.place.value
+            ≡ seen_in T.state self.old.place.value }
+        ensures kept { let host = ⟦<PromptHost<H, L, K, V> as LineEditorHost>⟧ in
+            IfOk answer (λ it. IsRemembered host.rules.lines self.old.remembers (accepted_in it)
+            (host.value self.old.host.value) (host.value self.new.host.value)) }
+    {
         if let Place::Terminal(place) = &mut *self.place {
             let _unmarked = place.end();
         }
@@ -246,17 +278,44 @@ impl<
         answer
     }
 
+    /// Reads a line where the prompt reads its lines.
+    fn read_line(&mut self, prompt: &str) -> Result<Answer, PromptError>
+        ensures ok { let host = ⟦<PromptHost<H, L, K, V> as LineEditorHost>⟧ in
+            let value = host.value self.old.host.value in
+            let line = line_begun host.rules host.OVERRIDES prompt.now value in
+            IfOk result (IsReadIn line (seen_in T.state self.old.place.value)
+            (seen_in T.state self.new.place.value) (host.value self.new.host.value)) }
+        ensures prompt { StaysPrompt (seen_in T.state self.old.place.value)
+            (seen_in T.state self.new.place.value) }
+        ensures remembers { self.new.remembers ≡ self.old.remembers }
+    {
+        let alloc = self.rt.alloc();
+        match &mut *self.place {
+            Place::Pipe => self.read_plainly(),
+            Place::Terminal(place) => place.read(alloc, &mut *self.host, prompt),
+        }
+    }
+
     /// Reads a line. The prompt is `host.screen.prompt`, and pasted texts keep their rows if `host` shows rows. What the
     /// last line left, accepted or not, is forgotten first. Meanwhile the terminal marks pasted texts and tells its
     /// sizes. At a pipe an incomplete line goes on with the next one, behind a line feed, and why a line is invalid is
     /// written to standard error.
-    pub fn read(&mut self) -> Result<Answer, PromptError> {
+    pub fn read(&mut self) -> Result<Answer, PromptError>
+        ensures ok { let host = ⟦<PromptHost<H, L, K, V> as LineEditorHost>⟧ in
+            let fresh = record (host.value self.old.host.value) {
+              keys = K.keys.leaves (K.state self.old.host.value.keys);
+              going = going_at_rest;
+            } in
+            let prompt = string_bytes self.old.host.value.screen.prompt in
+            let line = line_begun host.rules host.OVERRIDES prompt fresh in
+            IfOk result (IsReadAndKept line self.old.remembers
+            (seen_in T.state self.old.place.value) (seen_in T.state self.new.place.value)
+            (host.value self.new.host.value)) }
+        ensures prompt { StaysPrompt (seen_in T.state self.old.place.value)
+            (seen_in T.state self.new.place.value) }
+    {
         let prompt = self.begin_line()?;
-        let alloc = self.rt.alloc();
-        let answer = match &mut *self.place {
-            Place::Pipe => self.read_plainly(),
-            Place::Terminal(place) => place.read(alloc, &mut *self.host, prompt.as_str()),
-        };
+        let answer = self.read_line(prompt.as_str());
         self.end_line(answer)
     }
 
@@ -277,7 +336,12 @@ impl<
     }
 
     /// Adds an accepted line to the history. If there is no memory for it, the line is not kept.
-    fn remember(&mut self, answer: &Answer) {
+    fn remember(&mut self, answer: &Answer)
+        ensures place { self.new.place ≡ self.old.place }
+        ensures kept { let host = ⟦<PromptHost<H, L, K, V> as LineEditorHost>⟧ in
+            IsRemembered host.rules.lines self.old.remembers (accepted_in answer.now)
+            (host.value self.old.host.value) (host.value self.new.host.value) }
+    {
         match answer {
             Answer::Line(line) if self.remembers && !line.is_empty() => {
                 let _kept = self.host.remember(line.as_str());
@@ -325,10 +389,10 @@ impl<T: DeviceTerminal + Drop, L: History + LentLines + Drop, K: KeyPart + Drop>
     PreparedLines,
 > {
     /// Reads a line as `read` does, with the functions of an application.
-    pub fn read_with<A: Application>(
-        &mut self,
-        application: &mut A,
-    ) -> Result<Answer, PromptError> {
+    pub fn read_with<A: Application>(&mut self, application: &mut A) -> Result<Answer, PromptError>
+        ensures prompt { StaysPrompt (seen_in T.state self.old.place.value)
+            (seen_in T.state self.new.place.value) }
+    {
         let prompt = self.begin_line()?;
         let alloc = self.rt.alloc();
         let answer = match &mut *self.place {

@@ -6,8 +6,7 @@ use Rattle.tw_ansi.specs.declared.encode.Encoder.{Encoder}
 use Rattle.tw_ansi.specs.Encoding.{terse_batch}
 use Rattle.tw_sparing.specs.declared.shown.Shown.{Shown}
 use Rattle.tw_sparing.specs.Shown.{changes_below, gone_rows, left_behind, sent_for, IsDrawnAfter, IsFromStart, IsKnownAfter, IsPlayed, IsStillKnown, KeepsAbove}
-use Rattle.tw_sparing.specs.KnownRuns.{sent_for_all}
-use Rattle.tw_sparing.specs.SparingRuns.{AreKnownSince}
+use Rattle.tw_sparing.specs.KnownRuns.{AreKnownSince, sent_for_all}
 use Rattle.tw_sparing.specs.Ahead.{AheadView, AreAhead, IsDrawnBetween, IsJoined, ahead_view, all_changes, changes_among, group_kept, groups_with, joined_group, latest_known, leaves_sight, sent_ahead}
 use Rattle.tw_sparing.proofs.GroupLemmas.{all_changes-last}
 use Rattle.tw_sparing.proofs.PlayedBatches.{drawn_known, drawn_row, drawn_width, known_drawn, known_width, played_width}

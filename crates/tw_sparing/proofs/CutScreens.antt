@@ -5,8 +5,8 @@ use Rattle.std.proofs.lemmas.List.{get_or-drop}
 use Rattle.std.specs.Prelude.{slice_index_or, true}
 use Rattle.tw_surface.specs.Characters.{is_printable}
 use Rattle.laws_screens.specs.StyledCells.{StyledCell}
-use Rattle.tw_changed.specs.StyledScreens.{StyledView, styled_cell, without_rows}
-use Rattle.tw_changed.specs.Sending.{screen_cells, changes_between, IsPrintable}
+use Rattle.tw_sparing.specs.StyledScreens.{StyledView, styled_cell, without_rows}
+use Rattle.tw_sparing.specs.Sending.{screen_cells, changes_between, IsPrintable}
 use Rattle.tw_sparing.specs.declared.shown.Shown.{Shown}
 use Rattle.tw_sparing.specs.Shown.{changes_below}
 

@@ -20,7 +20,7 @@ use Rattle.tw_ansi.specs.EcmaTexts.{ShowsPicture}
 use Rattle.tw_ansi.specs.EcmaBatches.{IsReached, AreSendable}
 use Rattle.tw_ansi.proofs.JoinedMarks.{styled_join}
 use Rattle.tw_ansi.proofs.EcmaBatches.{batch_is_shown}
-use Rattle.tw_changed.specs.Differences.{blank_cell}
+use Rattle.tw_sparing.specs.Differences.{blank_cell}
 use Rattle.tw_sparing.specs.declared.shown.Shown.{Shown}
 use Rattle.tw_sparing.specs.Shown.{first_shown, FitsTerminal, IsShortMove, IsPlayedOnce, IsPlayed, SetsAttributes, Empties, IsFromStart, LeadsToStart}
 use Rattle.tw_sparing.specs.ShownTerminals.{IsShownBy, FirstIsKnown}

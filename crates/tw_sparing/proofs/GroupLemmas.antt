@@ -7,8 +7,7 @@ use Rattle.tw_ansi.specs.declared.encode.Encoder.{Encoder}
 use Rattle.tw_ansi.specs.Encoding.{Sent}
 use Rattle.tw_sparing.specs.declared.shown.Shown.{Shown}
 use Rattle.tw_sparing.specs.Shown.{sent_for}
-use Rattle.tw_sparing.specs.KnownRuns.{KnownBatch, batches_among, last_known, sent_for_all}
-use Rattle.tw_sparing.specs.SparingRuns.{AreKnownSince}
+use Rattle.tw_sparing.specs.KnownRuns.{AreKnownSince, KnownBatch, batches_among, last_known, sent_for_all}
 use Rattle.tw_sparing.specs.Ahead.{AheadView, all_changes, changes_among, groups_with}
 
 -- ---- the changes of lists

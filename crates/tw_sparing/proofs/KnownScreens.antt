@@ -14,9 +14,9 @@ use Rattle.tw_ansi.specs.declared.encode.Encoder.{Encoder}
 use Rattle.tw_ansi.specs.Encoding.{sent_change, terse_batch}
 use Rattle.tw_ansi.specs.EcmaScreen.{EcmaScreen, receive_all}
 use Rattle.tw_ansi.specs.EcmaLaws.{IsColor}
-use Rattle.tw_changed.specs.StyledScreens.{without_rows}
-use Rattle.tw_changed.specs.ChangedScreens.{IsBlankFrom, IsSeenFrom}
-use Rattle.tw_changed.specs.Sending.{screen_cells, hand_of}
+use Rattle.tw_sparing.specs.StyledScreens.{without_rows}
+use Rattle.tw_sparing.specs.ChangedScreens.{IsBlankFrom, IsSeenFrom}
+use Rattle.tw_sparing.specs.Sending.{screen_cells, hand_of}
 use Rattle.tw_sparing.specs.declared.shown.Shown.{Shown}
 use Rattle.tw_sparing.specs.Shown.{changes_below, first_shown, goes_out_of_sight, gone_rows, left_behind, rows_above, IsDrawnAfter, IsKnownBy, IsPlayed, IsRefilled, IsShortMove}
 use Rattle.tw_sparing.specs.ShownTerminals.{IsShownBy, KnownIsShown}

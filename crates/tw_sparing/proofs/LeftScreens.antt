@@ -5,9 +5,9 @@ use Rattle.laws_screens.specs.StyledCells.{StyledCell, styled}
 use Rattle.tw_ansi.specs.declared.encode.Encoder.{Encoder}
 use Rattle.tw_ansi.specs.EcmaScreen.{EcmaScreen}
 use Rattle.tw_ansi.specs.EcmaTexts.{ShowsPicture}
-use Rattle.tw_changed.specs.StyledScreens.{without_rows}
-use Rattle.tw_changed.specs.ChangedScreens.{AreByBytes}
-use Rattle.tw_changed.specs.Sending.{screen_cells}
+use Rattle.tw_sparing.specs.StyledScreens.{without_rows}
+use Rattle.tw_sparing.specs.ChangedScreens.{AreByBytes}
+use Rattle.tw_sparing.specs.Sending.{screen_cells}
 use Rattle.tw_sparing.specs.declared.shown.Shown.{Shown}
 use Rattle.tw_sparing.specs.Shown.{from_cursor, left_behind, IsStillKnown}
 use Rattle.tw_sparing.specs.ShownTerminals.{IsShownBy}

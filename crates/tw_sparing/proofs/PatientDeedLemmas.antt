@@ -5,15 +5,14 @@ use Rattle.tw_surface.specs.ChangeView.{Batch}
 use Rattle.tw_terminal.specs.TerminalState.{TerminalState, usize_max}
 use Rattle.tw_terminal.specs.Uses.{Took, Refused, Other, Uses}
 use Rattle.tw_lineedit.proofs.FailureLemmas.{le_count, rose_once}
-use Rattle.tw_device.specs.Deeds.{Deed, Called, Sized, Said, sizes_by, texts_by}
-use Rattle.tw_device.proofs.DeedLemmas.{appends_nothing, appends_then}
+use Rattle.tw_device.specs.Deeds.{Deed, Called, Sized, Said, batches_by, sizes_by, texts_by}
+use Rattle.tw_device.proofs.DeedLemmas.{appends_nothing, appends_then, done_says, done_sizes, done_takes}
 use Rattle.tw_sparing.specs.declared.patient.PatientTerminal.{PatientTerminal}
-use Rattle.tw_sparing.specs.KnownRuns.{KnownBatch, last_known, sent_for_all}
-use Rattle.tw_sparing.specs.SparingRuns.{AreKnownSince}
+use Rattle.tw_sparing.specs.KnownRuns.{AreKnownSince, KnownBatch, last_known, sent_for_all}
 use Rattle.tw_sparing.specs.Ahead.{AheadView, all_changes, changes_among, groups_with}
 use Rattle.tw_sparing.specs.Terminal.{patient_state}
 use Rattle.tw_sparing.specs.PatientDeeds.{DoesPatiently, FailsPatiently, IsTakenPatiently, KeepsBack, RestsPatiently, SendsGroups}
-use Rattle.tw_sparing.specs.PatientRuns.{IsSentPatiently, PatientlyLedIsSent, SettledIsSent}
+use Rattle.tw_sparing.specs.PatientRuns.{IsSentPatiently, PatientlyDoneIsSent, SettledIsSent}
 use Rattle.tw_sparing.proofs.GroupLemmas.{all_changes-both, changes_among-both, changes_among-with, known_since-both, last_known-both, sent_bytes-both, sent_next-both}
 
 module _ {W : Type 0} (contents : W → Option (List ℕ)) where
@@ -30,8 +29,11 @@ module _ {W : Type 0} (contents : W → Option (List ℕ)) where
   counts_on (Called Refused) old new does = counted_on old new does.state (le_count old.sent.failures)
   counts_on (Called Other) old new (inl rests) = counted_on old new (ap patient_state rests) (omega arith)
   counts_on (Called Other) old new (inr (inl flushes)) = elim flushes.state [
-    | inl done ↦ counted_on old new done (omega arith)
-    | inr refused ↦ counted_on old new refused (le_count old.sent.failures)
+    | inl settled ↦ counted_on old new settled (omega arith)
+    | inr flushed ↦ elim flushed [
+      | inl done ↦ counted_on old new done (omega arith)
+      | inr refused ↦ counted_on old new refused (le_count old.sent.failures)
+    ]
   ]
   counts_on (Called Other) old new (inr (inr fails)) = counted_on old new fails.state (le_count old.sent.failures)
   counts_on (Sized size) old new does = counted_on old new does.state (omega arith)
@@ -177,27 +179,29 @@ module _ {W : Type 0} (contents : W → Option (List ℕ)) where
   -- deeds that give no size and send no text, of which no failure was counted
   all_sent_ahead : (deeds : List Deed) (old new : PatientTerminal W) → Uses (DoesPatiently contents) deeds old new → new.sent.failures ≡ old.sent.failures
       → old.sent.failures ≢ usize_max → sizes_by deeds ≡ [] → texts_by deeds ≡ []
-      → (groups : List KnownBatch) × (batches : List Batch) × IsSentPatiently contents groups batches old new
-  all_sent_ahead [] old new same kept below sizes texts = ([], [], rw same (none_sent_ahead old))
+      → (groups : List KnownBatch) × IsSentPatiently contents groups (batches_by deeds) old new
+  all_sent_ahead [] old new same kept below sizes texts = ([], rw same (none_sent_ahead old))
   all_sent_ahead (Called (Took batch) ∷ deeds) old new (between, does, uses) kept below sizes texts =
       let same = stays_on (Called (Took batch)) deeds old between new does uses kept in
       let later = all_sent_ahead deeds between new uses same.0 (λ full. below (sym same.1 ∙ full)) sizes texts in
-      let all = taken_then batch later.0 later.1 old between new does.taken (ap (λ (t : TerminalState). t.batches) does.state) later.2 in
-      (all.0, batch ∷ later.1, all.1)
+      taken_then batch later.0 (batches_by deeds) old between new does.taken (ap (λ (t : TerminalState). t.batches) does.state) later.1
   all_sent_ahead (Called Refused ∷ deeds) old new (between, does, uses) kept below sizes texts =
       absurd (not_refused deeds old between new does uses kept below)
   all_sent_ahead (Called Other ∷ deeds) old new (between, inl rests, uses) kept below sizes texts =
       let same = stays_on (Called Other) deeds old between new (inl rests) uses kept in
       let later = all_sent_ahead deeds between new uses same.0 (λ full. below (sym same.1 ∙ full)) sizes texts in
-      (later.0, later.1, rests_then later.0 later.1 old between new rests later.2)
+      (later.0, rests_then later.0 (batches_by deeds) old between new rests later.1)
   all_sent_ahead (Called Other ∷ deeds) old new (between, inr (inl flushes), uses) kept below sizes texts =
       let same = stays_on (Called Other) deeds old between new (inr (inl flushes)) uses kept in
       let later = all_sent_ahead deeds between new uses same.0 (λ full. below (sym same.1 ∙ full)) sizes texts in
       let batches : (patient_state between).batches ≡ (patient_state old).batches = elim flushes.state [
-        | inl done ↦ ap (λ (t : TerminalState). t.batches) done
-        | inr refused ↦ ap (λ (t : TerminalState). t.batches) refused
+        | inl settled ↦ ap (λ (t : TerminalState). t.batches) settled
+        | inr flushed ↦ elim flushed [
+          | inl done ↦ ap (λ (t : TerminalState). t.batches) done
+          | inr refused ↦ ap (λ (t : TerminalState). t.batches) refused
+        ]
       ] in
-      (old.ahead.kept ++ later.0, later.1, flushes_then later.0 later.1 old between new flushes.sends batches later.2)
+      (old.ahead.kept ++ later.0, flushes_then later.0 (batches_by deeds) old between new flushes.sends batches later.1)
   all_sent_ahead (Called Other ∷ deeds) old new (between, inr (inr fails), uses) kept below sizes texts =
       absurd (not_refused deeds old between new fails uses kept below)
   all_sent_ahead (Sized size ∷ deeds) old new uses kept below sizes texts =
@@ -205,17 +209,13 @@ module _ {W : Type 0} (contents : W → Option (List ℕ)) where
   all_sent_ahead (Said text ∷ deeds) old new uses kept below sizes texts =
       absurd (let some : length (text ∷ texts_by deeds) ≡ 0 = ap length texts in omega arith)
 
-  pub patiently_led_is_sent : PatientlyLedIsSent contents
-  patiently_led_is_sent events old new (deeds, uses, sizes, texts) kept below none =
-      all_sent_ahead deeds old new uses kept below (sizes ∙ none) texts
+  pub patiently_done_is_sent : PatientlyDoneIsSent contents
+  patiently_done_is_sent steps old new done kept below none =
+      let does = DoesPatiently contents in
+      let all = all_sent_ahead done.0 old new done.2 kept below (done_sizes does steps old new done ∙ none) (done_says does steps old new done) in
+      (all.0, subst (λ batches. IsSentPatiently contents all.0 batches old new) (done_takes does steps old new done) all.1)
 
   pub settled_is_sent : SettledIsSent contents
-  settled_is_sent events old new led kept below none before after =
-      let all = patiently_led_is_sent events old new led kept below none in
-      (all.0, all.1, settled_changes old.ahead.kept new.ahead.kept all.0 all.1 before after all.2.changes, all.2)
-    where
-      settled_changes : (a b groups : List KnownBatch) (batches : List Batch) → a ≡ [] → b ≡ []
-          → changes_among a ++ all_changes batches ≡ changes_among groups ++ changes_among b → changes_among groups ≡ all_changes batches
-      settled_changes a b groups batches is_a is_b is =
-          sym (append-nil (changes_among groups)) ∙ ap (λ v. changes_among groups ++ changes_among v) (sym is_b)
-          ∙ sym is ∙ ap (λ v. changes_among v ++ all_changes batches) is_a
+  settled_is_sent groups batches old new sent before after =
+      sym (append-nil (changes_among groups)) ∙ ap (λ v. changes_among groups ++ changes_among v) (sym after)
+      ∙ sym sent.changes ∙ ap (λ v. changes_among v ++ all_changes batches) before

@@ -11,8 +11,8 @@ use Rattle.tw_surface.specs.declared.cell.CellAttributes.{CellAttributes}
 use Rattle.laws_screens.specs.Pens.{led, char_stroke, change_strokes}
 use Rattle.laws_screens.specs.StyledCells.{styled}
 use Rattle.laws_screens.proofs.PlainGlyphs.{plain_strokes}
-use Rattle.tw_changed.specs.StyledScreens.{StyledView, AreDrawn, at_row, screen_strokes, styled_at}
-use Rattle.tw_changed.proofs.TypedOn.{plain_chars}
+use Rattle.tw_sparing.specs.StyledScreens.{StyledView, AreDrawn, at_row, screen_strokes, styled_at}
+use Rattle.tw_sparing.proofs.TypedOn.{plain_chars}
 use Rattle.tw_surface.specs.declared.change.Position.TheVariants.{Absolute, Relative}
 use Rattle.tw_surface.specs.ChangeView.{Attribute, AllAttributes, Text, ClearScreen, ClearToEndOfScreen, CursorPosition}
 use Rattle.tw_surface.specs.Defaults.{default_color}

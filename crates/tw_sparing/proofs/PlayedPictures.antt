@@ -11,7 +11,7 @@ use Rattle.laws_screens.proofs.SeenRows.{steps_on-append}
 use Rattle.laws_screens.specs.Glyphs.{glyphs}
 use Rattle.laws_screens.specs.Pens.{led, change_strokes, strokes_of, kept_after}
 use Rattle.laws_screens.specs.StyledCells.{StyledCell, styled}
-use Rattle.tw_changed.specs.StyledScreens.{ShowsStyled}
+use Rattle.tw_sparing.specs.StyledScreens.{ShowsStyled}
 use Rattle.tw_sparing.specs.declared.shown.Shown.{Shown}
 use Rattle.tw_sparing.specs.Shown.{left_behind, IsInSight, IsPlayedOnce, IsPlayed}
 use Rattle.tw_sparing.proofs.TypedPictures.{glyphs_type}

@@ -10,12 +10,12 @@ use Rattle.tw_ansi.specs.Encoding.{Sent, terse_batch}
 use Rattle.tw_ansi.specs.EcmaScreen.{EcmaScreen, receive_all}
 use Rattle.tw_ansi.specs.EcmaLaws.{IsColor}
 use Rattle.tw_ansi.specs.EcmaTexts.{IsOfRows, ShowsPicture}
-use Rattle.tw_changed.specs.StyledScreens.{without_rows}
-use Rattle.tw_changed.specs.declared.hand.Hand.{Hand}
-use Rattle.tw_changed.specs.Redrawings.{redrawn}
-use Rattle.tw_changed.specs.ChangedScreens.{IsBlankFrom, IsInk, IsInked, IsHandWithin, IsSeenFrom, turned_to}
-use Rattle.tw_changed.specs.Sending.{screen_cells, hand_of}
-use Rattle.tw_changed.proofs.ShownChanges.{changed_is_shown}
+use Rattle.tw_sparing.specs.StyledScreens.{without_rows}
+use Rattle.tw_sparing.specs.declared.hand.Hand.{Hand}
+use Rattle.tw_sparing.specs.Redrawings.{redrawn}
+use Rattle.tw_sparing.specs.ChangedScreens.{IsBlankFrom, IsInk, IsInked, IsHandWithin, IsSeenFrom, turned_to}
+use Rattle.tw_sparing.specs.Sending.{screen_cells, hand_of}
+use Rattle.tw_sparing.proofs.ShownChanges.{changed_is_shown}
 use Rattle.tw_sparing.specs.declared.shown.Shown.{Shown}
 use Rattle.tw_sparing.specs.Shown.{changes_below, left_behind, FitsTerminal}
 use Rattle.tw_sparing.specs.ShownTerminals.{IsShownBy}

@@ -18,7 +18,7 @@ use Rattle.tw_ansi.specs.EcmaLaws.{IsColor, IsAttribute}
 use Rattle.tw_ansi.specs.EcmaBatches.{CarriesAttributes, IsReached, IsSendable, AreSendable}
 use Rattle.tw_ansi.proofs.EcmaBatches.{keeps_change}
 use Rattle.tw_ansi.proofs.EcmaPaintings.{plain_sent}
-use Rattle.tw_changed.specs.ChangedScreens.{AreByBytes}
+use Rattle.tw_sparing.specs.ChangedScreens.{AreByBytes}
 use Rattle.tw_sparing.specs.declared.shown.Shown.{Shown}
 use Rattle.tw_sparing.specs.Shown.{left_behind, IsInSight, IsPlayable, IsPlayedOnce, IsPlayed}
 use Rattle.tw_sparing.proofs.PlayedBatches.{played_reached}

@@ -1,10 +1,10 @@
 -- How little is sent for a batch.
 use Rattle.std.proofs.Common.{◌≡◌, ◌<◌, ◌-◌, ℕ, max, Bool, true, false, cond, leb, Some, ap, ◌∙◌, refl, arith}
 use Rattle.tw_ansi.specs.Encoding.{terse_batch}
-use Rattle.tw_changed.specs.declared.hand.Hand.{Hand}
-use Rattle.tw_changed.specs.Redrawings.{redrawn}
-use Rattle.tw_changed.proofs.ShortChanges.{nothing_is_sent}
-use Rattle.tw_changed.proofs.TypedChanges.{typed_is_sent_alone}
+use Rattle.tw_sparing.specs.declared.hand.Hand.{Hand}
+use Rattle.tw_sparing.specs.Redrawings.{redrawn}
+use Rattle.tw_sparing.proofs.ShortChanges.{nothing_is_sent}
+use Rattle.tw_sparing.proofs.TypedChanges.{typed_is_sent_alone}
 use Rattle.tw_sparing.specs.declared.shown.Shown.{Shown}
 use Rattle.tw_sparing.specs.Shown.{changes_below, gone_rows, left_behind}
 use Rattle.tw_sparing.specs.Shortness.{cells_below, hand_below, NoBatchIsSentForNothing, TypedBatchIsSentAlone}

@@ -10,8 +10,8 @@ use Rattle.laws_screens.specs.Strokes.Stroke.{Move}
 use Rattle.laws_screens.proofs.SeenRows.{Sees, is_typing, sees-typing, sees-clear, sees-still, sees-scrolled}
 use Rattle.laws_screens.specs.Pens.{led}
 use Rattle.laws_screens.specs.StyledCells.{StyledCell}
-use Rattle.tw_changed.specs.StyledScreens.{ShowsStyled}
-use Rattle.tw_changed.specs.Differences.{blank_cell}
+use Rattle.tw_sparing.specs.StyledScreens.{ShowsStyled}
+use Rattle.tw_sparing.specs.Differences.{blank_cell}
 use Rattle.tw_sparing.specs.declared.shown.Shown.{Shown}
 use Rattle.tw_sparing.proofs.TypedPictures.{typing_keeps, steps_on-none}
 

@@ -8,9 +8,9 @@ use Rattle.laws_screens.specs.StyledCells.{StyledCell, styled}
 use Rattle.tw_ansi.specs.declared.encode.Encoder.{Encoder}
 use Rattle.tw_ansi.specs.EcmaScreen.{EcmaScreen}
 use Rattle.tw_ansi.specs.EcmaTexts.{IsOfRows}
-use Rattle.tw_changed.specs.StyledScreens.{styled_at, without_rows}
-use Rattle.tw_changed.specs.ChangedScreens.{IsBlankFrom, IsSeenFrom}
-use Rattle.tw_changed.specs.Sending.{screen_cells, hand_of}
+use Rattle.tw_sparing.specs.StyledScreens.{styled_at, without_rows}
+use Rattle.tw_sparing.specs.ChangedScreens.{IsBlankFrom, IsSeenFrom}
+use Rattle.tw_sparing.specs.Sending.{screen_cells, hand_of}
 use Rattle.tw_sparing.specs.declared.shown.Shown.{Shown}
 use Rattle.tw_sparing.specs.Shown.{left_behind, FitsTerminal}
 use Rattle.tw_sparing.specs.ShownTerminals.{IsShownBy}

@@ -6,6 +6,7 @@ use Rattle.laws_screens.specs.Pens.{strokes_of}
 use Rattle.laws_screens.specs.Screens.{play_sized}
 use Rattle.laws_screens.specs.SizedBatches.{sized_at}
 use Rattle.laws_screens.specs.StyledCells.{StyledCell, styled}
+use Rattle.tw_terminal.specs.declared.terminal.ScreenSize.{ScreenSize}
 use Rattle.tw_ansi.specs.declared.encode.Encoder.{Encoder}
 use Rattle.tw_ansi.specs.Encoding.{Sent, sends, sent_then}
 use Rattle.tw_ansi.specs.EcmaBatches.{AreSendable}
@@ -36,6 +37,14 @@ last_known old (call ∷ more) = last_known call.known more
 abbrev pub sent_for_all : ℕ → Option Shown → List KnownBatch → Encoder → Sent
 sent_for_all rows old [] e = sends [] e
 sent_for_all rows old (call ∷ more) e = sent_then (sent_for rows call.batch old call.drawn e) (sent_for_all rows call.known more)
+
+-- of each batch what is known after it follows from what was known before it, on a terminal of this size
+abbrev pub AreKnownSince : ScreenSize → Option Shown → Encoder → List KnownBatch → Type 0
+AreKnownSince size old e [] = ⊤
+AreKnownSince size old e (call ∷ more) =
+    IsKnownAfter size.cols size.rows call.batch old call.drawn × IsFromStart e.x call.batch old call.drawn
+    × IsStillKnown call.drawn call.known
+    × AreKnownSince size call.known (sent_for size.rows call.batch old call.drawn e).next more
 
 -- a terminal shows a picture, in which what is known stands, where anything is known
 abbrev pub IsShownAs : ℕ → ℕ → Encoder → EcmaScreen StyledCell → PictureOf StyledCell → Option Shown → Type 0

@@ -1,10 +1,15 @@
+pub mod StyledScreens
+pub mod Differences
+pub mod Redrawings
+pub mod ChangedScreens
+pub mod Sending
+pub mod ShortDifferences
 pub mod Shown
 pub mod ShownTerminals
 pub mod KnownRuns
 pub mod Shortness
-pub mod SparingDeeds
-pub mod SparingRuns
 pub mod Terminal
 pub mod Ahead
 pub mod PatientDeeds
 pub mod PatientRuns
+pub mod PatientLaws

@@ -3,15 +3,14 @@ use Rattle.std.specs.Prelude.{◌≡◌, ℕ, Bool, true, false, ◌⊎◌, List
 use Rattle.std.specs.Io.KnownBytes.{Appends}
 use Rattle.tw_surface.specs.ChangeView.{Batch}
 use Rattle.tw_terminal.specs.TerminalState.{Fails, Flushes, Renders}
-use Rattle.tw_terminal.specs.Uses.{Call, Took, Refused, Other}
+use Rattle.tw_terminal.specs.Uses.{Took, Refused, Other}
 use Rattle.tw_terminal.specs.declared.terminal.ScreenSize.{ScreenSize}
 use Rattle.tw_ansi.specs.Encoding.{sent_then}
 use Rattle.tw_device.specs.Deeds.{Deed, Called, Sized, Said, sent_deed}
 use Rattle.tw_sparing.specs.declared.patient.PatientTerminal.{PatientTerminal}
 use Rattle.tw_sparing.specs.declared.shown.Shown.{Shown}
 use Rattle.tw_sparing.specs.Shown.{IsKnownAfter}
-use Rattle.tw_sparing.specs.KnownRuns.{KnownBatch, last_known, sent_for_all}
-use Rattle.tw_sparing.specs.SparingRuns.{AreKnownSince}
+use Rattle.tw_sparing.specs.KnownRuns.{AreKnownSince, KnownBatch, last_known, sent_for_all}
 use Rattle.tw_sparing.specs.Ahead.{IsJoined, groups_with, joined_group, latest_known, sent_ahead, settled_at}
 use Rattle.tw_sparing.specs.Terminal.{patient_state}
 
@@ -64,11 +63,11 @@ module _ {W : Type 0} (contents : W → Option (List ℕ)) where
   abbrev pub RestsPatiently : PatientTerminal W → PatientTerminal W → Type 0
   RestsPatiently old new = new ≡ record old { is_more = new.is_more }
 
-  -- A flush: what is kept back is sent, whatever is at hand, and then all is flushed, or that is refused.
+  -- What is kept back is sent, whatever is at hand. A flush flushes all then, or that is refused.
   pub record FlushesPatiently (old new : PatientTerminal W) : Type 0 where
     pub sends : SendsGroups old.ahead.kept old new
     pub more : new.is_more ≡ old.is_more
-    pub state : Flushes (patient_state old) (patient_state new) ⊎ Fails (patient_state old) (patient_state new)
+    pub state : (patient_state new ≡ patient_state old) ⊎ (Flushes (patient_state old) (patient_state new) ⊎ Fails (patient_state old) (patient_state new))
 
   -- A size is told. What was kept back is sent first, or it is lost; and then it is not known what is shown.
   pub record SizesPatiently (size : ScreenSize) (old new : PatientTerminal W) : Type 0 where
@@ -92,7 +91,3 @@ module _ {W : Type 0} (contents : W → Option (List ℕ)) where
   DoesPatiently old new (Called Other) = RestsPatiently old new ⊎ (FlushesPatiently old new ⊎ FailsPatiently old new)
   DoesPatiently old new (Sized size) = SizesPatiently size old new
   DoesPatiently old new (Said text) = SaysPatiently text old new
-
-  -- A call of `Terminal` is such a deed, and more is at hand after it only where it was before.
-  abbrev pub FollowsPatiently : PatientTerminal W → PatientTerminal W → Call → Type 0
-  FollowsPatiently old new call = DoesPatiently old new (Called call) × (old.is_more ≡ false → new.is_more ≡ false)

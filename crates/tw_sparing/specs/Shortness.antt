@@ -3,10 +3,10 @@ use Rattle.std.specs.Prelude.{◌≡◌, ◌<◌, ◌-◌, ℕ, Some, []}
 use Rattle.laws_screens.specs.StyledCells.{StyledCell}
 use Rattle.tw_ansi.specs.declared.encode.Encoder.{Encoder}
 use Rattle.tw_surface.specs.ChangeView.{Batch}
-use Rattle.tw_changed.specs.StyledScreens.{without_rows}
-use Rattle.tw_changed.specs.Sending.{screen_cells, hand_of}
-use Rattle.tw_changed.specs.Shortness.{IsTypedAt, characters_from}
-use Rattle.tw_changed.specs.declared.hand.Hand.{Hand}
+use Rattle.tw_sparing.specs.StyledScreens.{without_rows}
+use Rattle.tw_sparing.specs.Sending.{screen_cells, hand_of}
+use Rattle.tw_sparing.specs.ShortDifferences.{IsTypedAt, characters_from}
+use Rattle.tw_sparing.specs.declared.hand.Hand.{Hand}
 use Rattle.tw_sparing.specs.declared.shown.Shown.{Shown}
 use Rattle.tw_sparing.specs.Shown.{IsKnownAfter, left_behind, sent_for}
 

@@ -15,9 +15,9 @@ use Rattle.tw_ansi.specs.declared.encode.Encoder.{Encoder}
 use Rattle.tw_ansi.specs.EcmaLaws.{IsAttribute}
 use Rattle.tw_ansi.specs.Encoding.{Sent, sent_batch, terse_batch}
 use Rattle.tw_ansi.specs.Sequences.{most_rows}
-use Rattle.tw_changed.specs.StyledScreens.{StyledView, AreDrawn, IsSameBut, at_row, blank_styled, paper_cell, styled_cell, without_rows}
-use Rattle.tw_changed.specs.ChangedScreens.{AreByBytes, AreAllByBytes}
-use Rattle.tw_changed.specs.Sending.{IsPrintable, screen_cells, changes_between}
+use Rattle.tw_sparing.specs.StyledScreens.{StyledView, AreDrawn, IsSameBut, at_row, blank_styled, paper_cell, styled_cell, without_rows}
+use Rattle.tw_sparing.specs.ChangedScreens.{AreByBytes, AreAllByBytes}
+use Rattle.tw_sparing.specs.Sending.{IsPrintable, screen_cells, changes_between}
 use Rattle.tw_sparing.specs.declared.shown.Shown.{Shown}
 
 -- ---- what is known

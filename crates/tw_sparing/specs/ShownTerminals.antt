@@ -8,9 +8,9 @@ use Rattle.tw_ansi.specs.declared.encode.Encoder.{Encoder}
 use Rattle.tw_ansi.specs.EcmaScreen.{EcmaScreen, receive_all}
 use Rattle.tw_ansi.specs.EcmaLaws.{IsColor}
 use Rattle.tw_ansi.specs.EcmaTexts.{ShowsPicture}
-use Rattle.tw_changed.specs.StyledScreens.{without_rows}
-use Rattle.tw_changed.specs.ChangedScreens.{IsBlankFrom, IsSeenFrom}
-use Rattle.tw_changed.specs.Sending.{screen_cells, hand_of}
+use Rattle.tw_sparing.specs.StyledScreens.{without_rows}
+use Rattle.tw_sparing.specs.ChangedScreens.{IsBlankFrom, IsSeenFrom}
+use Rattle.tw_sparing.specs.Sending.{screen_cells, hand_of}
 use Rattle.tw_sparing.specs.declared.shown.Shown.{Shown}
 use Rattle.tw_sparing.specs.Shown.{FitsTerminal, IsFromStart, IsKnownAfter, left_behind, sent_for}
 

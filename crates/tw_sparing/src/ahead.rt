@@ -4,9 +4,8 @@ ghost use Rattle.std.specs.Prelude.{◌≡◌, ◌++◌, [], ◌∷◌, true, fa
 ghost use Rattle.tw_ansi.specs.declared.encode.Encoder.{Encoder};
 ghost use Rattle.tw_surface.specs.ChangeView.{batch_view};
 ghost use Rattle.tw_sparing.specs.Ahead.{IsJoined, groups_with, joined_group, latest_known, leaves_sight, sent_ahead, settled_at};
-ghost use Rattle.tw_sparing.specs.KnownRuns.{sent_for_all};
+ghost use Rattle.tw_sparing.specs.KnownRuns.{AreKnownSince, sent_for_all};
 ghost use Rattle.tw_sparing.specs.Shown.{IsKnownAfter, IsStillKnown};
-ghost use Rattle.tw_sparing.specs.SparingRuns.{AreKnownSince};
 
 use crate::sending::{send_for, send_known};
 use crate::shown::{Shown, is_same_above, shown_after};

@@ -1,7 +1,8 @@
-//! Terminals over a writer that are sent what differs, and not all that is painted.
+//! A terminal over a writer that is sent what differs, and not all that is painted.
 //!
-//! Use `SparingTerminal` in the place of `AnsiTerminal` to send fewer bytes, and `PatientTerminal` to send none while
-//! more keys are at hand (docs/SPEED.md).
+//! Use `PatientTerminal` in the place of `AnsiTerminal` to send fewer bytes, and none while more keys are at hand
+//! (docs/SPEED.md). It keeps a model of what is shown, a `StyledScreen`, whose cells hold characters under their
+//! attributes.
 //!
 //! From `crates/prompt_demo/src/main.rt`:
 //!
@@ -12,11 +13,17 @@
 #![tactic(auto)]
 
 mod ahead;
+mod cell;
+mod difference;
+mod hand;
 pub mod laws;
 mod patient;
+mod redrawer;
+mod screen;
 mod sending;
 mod shown;
-mod terminal;
 
+pub use cell::ScreenCell;
+pub use hand::Hand;
 pub use patient::PatientTerminal;
-pub use terminal::SparingTerminal;
+pub use screen::StyledScreen;

@@ -9,10 +9,11 @@ ghost use Rattle.tw_terminal.specs.Uses.{Other, Refused, Took};
 ghost use Rattle.tw_terminal.specs.declared.terminal.TerminalFault.TheVariants.{Device, Memory};
 ghost use Rattle.tw_device.specs.Deeds.{Called, Said, Sized, sent_deed};
 ghost use Rattle.tw_sparing.specs.Ahead.{groups_with, sent_ahead, latest_known, settled_at, IsJoined};
-ghost use Rattle.tw_sparing.specs.PatientDeeds.{DoesPatiently, FollowsPatiently, IsTakenPatiently, SendsGroups};
-ghost use Rattle.tw_sparing.specs.Terminal.{lost_at, patient_state};
+ghost use Rattle.tw_sparing.specs.PatientDeeds.{DoesPatiently, IsTakenPatiently, SendsGroups};
+ghost use Rattle.tw_sparing.specs.PatientLaws.{call_settles, flush_settles, refused_takes_none, took_settles};
+ghost use Rattle.tw_sparing.specs.Terminal.{keeps_back, lost_at, patient_state};
 ghost use Rattle.tw_sparing.specs.Shown.{EndsAtStart, IsKnownAfter, IsStillKnown};
-ghost use Rattle.tw_sparing.specs.SparingRuns.{AreKnownSince};
+ghost use Rattle.tw_sparing.specs.KnownRuns.{AreKnownSince};
 
 use crate::ahead::Ahead;
 use crate::shown::{Shown, ends_at_start, is_at_start, still_known};
@@ -25,10 +26,13 @@ use tw_input::InputEvent;
 use tw_surface::Change;
 use tw_terminal::{ScreenSize, Terminal, TerminalFault};
 
-/// A terminal over a writer, as `SparingTerminal` is. It has no events, and the size that its owner gives it. While its
-/// owner says that more events are at hand it keeps batches back, as long as one difference takes all of them; the next
-/// batch that is not kept back is sent with them. It keeps back no batch before which or after which it is not known
-/// what the terminal shows.
+/// A terminal over a writer. It has no events, and the size that its owner gives it. If it is known what it shows, a
+/// batch is sent as what differs, and else by its changes. Of a closed line it forgets the rows, so that a key costs no
+/// more after many lines.
+///
+/// While its owner says that more events are at hand it keeps batches back, as long as one difference takes all of
+/// them; the next batch that is not kept back is sent with them. It keeps back no batch before which or after which it
+/// is not known what the terminal shows, and none at all if its owner says nothing.
 #[derive(Drop)]
 pub struct PatientTerminal<W> {
     alloc: Global,
@@ -216,13 +220,13 @@ impl<W: Write> PatientTerminal<W> {
 impl<W: Write> Terminal for PatientTerminal<W> {
     ghost state = { patient_state };
 
-    ghost follows = { FollowsPatiently W.contents };
+    ghost follows = { λ old new call. DoesPatiently W.contents old new (Called call) };
 
     /// Returns the size that its owner gave it. It is never refused.
     fn get_screen_size(&mut self) -> Result<ScreenSize, TerminalFault>
         ensures size { result ≡ Ok (patient_state self.old).size }
         ensures kept { self.new ≡ self.old }
-        ensures follows { FollowsPatiently W.contents self.old self.new Other }
+        ensures follows { DoesPatiently W.contents self.old self.new (Called Other) }
     {
         Ok(self.ahead.size())
     }
@@ -231,7 +235,7 @@ impl<W: Write> Terminal for PatientTerminal<W> {
     fn poll_input(&mut self) -> Result<Option<InputEvent>, TerminalFault>
         ensures none { result ≡ Ok None }
         ensures kept { self.new ≡ self.old }
-        ensures follows { FollowsPatiently W.contents self.old self.new Other }
+        ensures follows { DoesPatiently W.contents self.old self.new (Called Other) }
     {
         Ok(None)
     }
@@ -246,9 +250,8 @@ impl<W: Write> Terminal for PatientTerminal<W> {
             (patient_state self.new)) }
         ensures err { OnErr result (RenderFails (batch_view changes.now) (patient_state self.old)
             (patient_state self.new)) }
-        ensures took { OnOk result (FollowsPatiently W.contents self.old self.new
-            (Took (batch_view changes.now))) }
-        ensures refused { OnErr result (FollowsPatiently W.contents self.old self.new Refused) }
+        ensures took { OnOk result (DoesPatiently W.contents self.old self.new (Called (Took (batch_view changes.now)))) }
+        ensures refused { OnErr result (DoesPatiently W.contents self.old self.new (Called Refused)) }
         ensures unsent { IfErr result (λ fault. fault ≡ Memory → self.new.writer
             ≡ self.old.writer) }
     {
@@ -268,7 +271,7 @@ impl<W: Write> Terminal for PatientTerminal<W> {
           writer = self.new.writer;
           sent = self.new.sent;
         } }
-        ensures follows { FollowsPatiently W.contents self.old self.new Other }
+        ensures follows { DoesPatiently W.contents self.old self.new (Called Other) }
     {
         match self.catch_up() {
             Ok(encoder) => {
@@ -290,9 +293,17 @@ impl<W: Write> DeviceTerminal for PatientTerminal<W> {
 
     ghost no_event = { λ it. refl };
 
-    ghost call_does = { λ old new call follows. follows.0 };
+    ghost keeps = { keeps_back };
 
-    ghost call_keeps = { λ old new call follows. follows.1 };
+    ghost call_does = { λ old new call follows. follows };
+
+    ghost took_settles = { took_settles W.contents };
+
+    ghost call_settles = { call_settles W.contents };
+
+    ghost flush_settles = { flush_settles W.contents };
+
+    ghost refused_takes_none = { refused_takes_none W.contents };
 
     fn set_screen_size(&mut self, size: ScreenSize) {
         PatientTerminal::set_screen_size(self, size);
@@ -304,5 +315,12 @@ impl<W: Write> DeviceTerminal for PatientTerminal<W> {
 
     fn set_more_at_hand(&mut self, is_more: bool) {
         PatientTerminal::set_more_at_hand(self, is_more);
+    }
+
+    /// Sends what is kept back. It does not count a refusal: no call of `Terminal` has failed.
+    fn settle(&mut self) -> Result<(), TerminalFault> {
+        let encoder = self.catch_up()?;
+        self.sent.encoder = encoder;
+        Ok(())
     }
 }

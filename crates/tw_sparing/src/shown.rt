@@ -5,13 +5,15 @@ ghost use Rattle.tw_ansi.specs.Encoding.{terse_batch};
 ghost use Rattle.tw_surface.specs.ChangeView.{ClearToEndOfScreen, CursorPosition, batch_view, change_view};
 ghost use Rattle.tw_surface.specs.declared.change.Position.TheVariants.{Absolute};
 ghost use Rattle.tw_surface.specs.Defaults.{default_color};
-ghost use Rattle.tw_changed.specs.Sending.{IsPrintable};
+ghost use Rattle.tw_sparing.specs.Sending.{IsPrintable};
 ghost use Rattle.tw_sparing.specs.Shown.{changes_below, first_shown, from_cursor, goes_out_of_sight, left_behind, rows_above, Empties, EndsAtStart, IsBegunBy, FitsTerminal, IsDrawnAfter, IsEmptiedFrom, IsFromStart, IsStillKnown, IsInSight, IsKnownAfter, IsKnownBy, IsMovedBy, IsRefilled, IsShortMove, IsPlayable, IsPlayed, IsPlayedOnce, KeepsAbove, LeadsToStart, SetsAttributes};
 
+use crate::difference::{is_printable, is_same_in_row};
+use crate::laws::{attribute, colors};
+use crate::redrawer::send_changed;
+use crate::screen::StyledScreen;
 use std::alloc::{AllocError, Global};
 use tw_ansi::Encoder;
-use tw_changed::laws::{attribute, colors};
-use tw_changed::{StyledScreen, is_printable, is_same_in_row, send_changed};
 use tw_surface::{Change, ColorAttribute, Position, is_plain_text};
 use tw_terminal::ScreenSize;
 

@@ -1,8 +1,6 @@
-use Rattle.laws_prompt.proofs.AnsweredRowLemmas.{rows_answer_line}
-use Rattle.laws_prompt.proofs.CellLemmas.{answers_show_lines, cells_by_division, shown_lines_are_plain}
-use Rattle.laws_prompt.proofs.LastRowLemmas.{last_row_by_division}
-use Rattle.laws_prompt.proofs.MeasuredRowLemmas.{measured_rows_are_rows}
-use Rattle.laws_prompt.proofs.PlainRowLemmas.{plain_rows_are_measured}
+use Rattle.laws_prompt.proofs.CellLemmas.{rows_answer_line, answers_show_lines, cells_by_division, shown_lines_are_plain}
+use Rattle.laws_prompt.proofs.LineRunLemmas.{last_row_by_division}
+use Rattle.laws_prompt.proofs.MeasuredRowLemmas.{measured_rows_are_rows, plain_rows_are_measured}
 use Rattle.laws_prompt.proofs.row_cells.Goals as goal
 
 pub returns-clause-measured : goal.returns-clause-measured

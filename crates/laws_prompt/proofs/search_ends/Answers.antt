@@ -1,4 +1,4 @@
-use Rattle.laws_prompt.proofs.SearchEndLemmas.{brings_found, completes_found}
+use Rattle.laws_prompt.proofs.SearchRunLemmas.{brings_found, completes_found}
 use Rattle.laws_prompt.proofs.search_ends.Goals as goal
 
 pub returns-clause-brought : goal.returns-clause-brought

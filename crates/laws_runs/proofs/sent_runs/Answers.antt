@@ -1,7 +1,4 @@
-use Rattle.laws_runs.proofs.ClosingLemmas.{closings_are_shown}
-use Rattle.laws_runs.proofs.HealedClosingLemmas.{healed_closings_are_shown}
-use Rattle.laws_runs.proofs.HealingLemmas.{healings_are_shown}
-use Rattle.laws_runs.proofs.SentLemmas.{paintings_are_shown}
+use Rattle.laws_runs.proofs.SentRunLemmas.{closings_are_shown, healed_closings_are_shown, healings_are_shown, paintings_are_shown}
 use Rattle.laws_runs.proofs.sent_runs.Goals as goal
 
 pub returns-clause-paintings : goal.returns-clause-paintings

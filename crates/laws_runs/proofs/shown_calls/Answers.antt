@@ -1,5 +1,5 @@
 use Rattle.std.proofs.Common.{ℕ, List, Option}
-use Rattle.laws_runs.proofs.PlainRunLemmas.{paints_nothing}
+use Rattle.laws_runs.proofs.DrawnRunLemmas.{paints_nothing}
 use Rattle.laws_runs.proofs.shown_calls.Goals as goal
 
 pub returns : goal.returns

@@ -1,4 +1,4 @@
-use Rattle.laws_runs.proofs.SizedRunLemmas.{readings_are_sized, since_is_sent, since_is_sent_whole}
+use Rattle.laws_runs.proofs.ReadingLemmas.{readings_are_sized, since_is_sent, since_is_sent_whole}
 use Rattle.laws_runs.proofs.sized_readings.Goals as goal
 
 pub returns-clause-sized : goal.returns-clause-sized

@@ -1,4 +1,4 @@
-use Rattle.laws_runs.proofs.PlainRunLemmas.{calls_stack}
+use Rattle.laws_runs.proofs.DrawnRunLemmas.{calls_stack}
 use Rattle.laws_runs.proofs.stacking.Goals as goal
 
 pub returns : goal.returns

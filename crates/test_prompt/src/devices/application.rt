@@ -4,7 +4,7 @@ use ecma_terminal::{EcmaTerminal, TerminalCell};
 use std::alloc::{AllocError, Global};
 use std::test::Fail;
 use test_cases::{bytes_of, expect_rows, hold};
-use tw_device::{AnsiTerminal, Answer, DeviceTerminal, KeyReader, Pasted};
+use tw_device::{AnsiTerminal, Answer, DeviceTerminal, Joined, KeyReader, Pasted};
 use tw_key_parts::KeyPart;
 use tw_line::BasicHistory;
 use tw_prompt::{Application, read_with};
@@ -60,23 +60,26 @@ pub fn rows_shown(alloc: Global, bytes: &[u8]) -> Result<String, Fail> {
 fn read_in<T: DeviceTerminal, K: KeyPart>(
     alloc: Global,
     bytes: &[u8],
-    terminal: &mut T,
+    terminal: T,
     host: &mut PromptHost<PreparedHost, BasicHistory, K, PreparedLines>,
-) -> Result<String, Fail> {
-    let mut keys = KeyReader::new(alloc, bytes).with_pasted(Pasted::Rows);
+) -> Result<String, Fail>
+where
+    T: Drop,
+{
+    let keys = KeyReader::new(alloc, bytes).with_pasted(Pasted::Rows);
+    let mut device = Joined::new(keys, terminal);
     let mut clerk = Clerk { events: 0 };
-    match read_with(alloc, &mut clerk, &mut keys, terminal, host, "> ")? {
+    match read_with(alloc, &mut clerk, &mut device, host, "> ")? {
         Answer::Line(line) => Ok(line),
         _ => Err(Fail::from("no line")),
     }
 }
 
 /// Reads a line with the application in a prompt that shows rows.
-fn read_at<T: DeviceTerminal>(
-    alloc: Global,
-    bytes: &[u8],
-    terminal: &mut T,
-) -> Result<String, Fail> {
+fn read_at<T: DeviceTerminal>(alloc: Global, bytes: &[u8], terminal: T) -> Result<String, Fail>
+where
+    T: Drop,
+{
     let continuation = String::from_str(alloc, "- ")?;
     let mut host = PromptHost::new(alloc, "> ", SIZE.cols)?
         .with_host(PreparedHost::new(alloc))
@@ -91,14 +94,14 @@ fn read_shown(alloc: Global, typed: &str) -> Result<String, Fail> {
     let bytes = bytes_of(alloc, typed)?;
     let mut taken = Vec::new(alloc);
     let line = {
-        let mut terminal = AnsiTerminal::new(alloc, &mut taken, SIZE);
-        read_at(alloc, bytes.as_slice(), &mut terminal)?
+        let terminal = AnsiTerminal::new(alloc, &mut taken, SIZE);
+        read_at(alloc, bytes.as_slice(), terminal)?
     };
     let shown = rows_shown(alloc, taken.as_slice())?;
     taken.clear();
     {
-        let mut terminal = PatientTerminal::new(alloc, &mut taken, SIZE);
-        let _same = read_at(alloc, bytes.as_slice(), &mut terminal)?;
+        let terminal = PatientTerminal::new(alloc, &mut taken, SIZE);
+        let _same = read_at(alloc, bytes.as_slice(), terminal)?;
     }
     let patient = rows_shown(alloc, taken.as_slice())?;
     hold(patient == shown, patient.as_str(), shown.as_str())?;

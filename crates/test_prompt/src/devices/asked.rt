@@ -6,9 +6,9 @@ use std::cell::Cell;
 use std::io::{self, Read, Write};
 use std::test::Fail;
 use test_cases::{bytes_of, expect_rows};
-use tw_device::{AnsiTerminal, DeviceTerminal, KeyReader, read_typed_line};
+use tw_device::{AnsiTerminal, DeviceTerminal, Joined, KeyReader, read_line_from};
 use tw_lineedit::NopLineEditorHost;
-use tw_sparing::{PatientTerminal, SparingTerminal};
+use tw_sparing::PatientTerminal;
 use tw_terminal::ScreenSize;
 
 /// The size of the screen.
@@ -56,13 +56,13 @@ impl Read for Noting<'_> {
 }
 
 /// Reads a line of the keys, and ignores it.
-fn read<T: DeviceTerminal>(alloc: Global, reader: Noting<'_>, mut terminal: T) -> Result<(), Fail>
+fn read<T: DeviceTerminal>(alloc: Global, reader: Noting<'_>, terminal: T) -> Result<(), Fail>
 where
     T: Drop,
 {
     let mut host = NopLineEditorHost::new(alloc);
-    let mut keys = KeyReader::new(alloc, reader);
-    let _line = read_typed_line(alloc, &mut keys, &mut terminal, &mut host, "> ")?;
+    let mut device = Joined::new(KeyReader::new(alloc, reader), terminal);
+    let _line = read_line_from(alloc, &mut device, &mut host, "> ")?;
     Ok(())
 }
 
@@ -84,7 +84,6 @@ fn play(alloc: Global, row: &str) -> Result<String, Fail> {
     };
     match kind {
         "ansi" => read(alloc, reader, AnsiTerminal::new(alloc, writer, SIZE))?,
-        "sparing" => read(alloc, reader, SparingTerminal::new(alloc, writer, SIZE))?,
         _ => read(alloc, reader, PatientTerminal::new(alloc, writer, SIZE))?,
     }
     let mut shown = Vec::new(alloc);
@@ -97,7 +96,6 @@ fn play(alloc: Global, row: &str) -> Result<String, Fail> {
 
 const ASKED: &str = r"
 ansi abc\x0d => >|> a|> ab|> abc
-sparing abc\x0d => >|> a|> ab|> abc
 patient abc\x0d => >|> a|> ab|> abc
 ansi ab\x02X\x08\x0d => >|> a|> ab|> ab|> aXb|> ab
 patient ab\x02X\x08\x0d => >|> a|> ab|> ab|> aXb|> ab

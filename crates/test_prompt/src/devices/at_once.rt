@@ -4,10 +4,10 @@ use super::application::{SIZE, rows_shown};
 use std::alloc::Global;
 use std::test::Fail;
 use test_cases::expect_rows;
-use tw_device::{AnsiTerminal, Answer, DeviceTerminal, KeyReader, read_typed_line};
+use tw_device::{AnsiTerminal, Answer, DeviceTerminal, Joined, KeyReader, read_line_from};
 use tw_lineedit::{CompletionCandidate, Error, LineEditBuffer, NopLineEditorHost};
 use tw_prompt_host::PreparedHost;
-use tw_sparing::{PatientTerminal, SparingTerminal};
+use tw_sparing::PatientTerminal;
 use tw_terminal::ScreenSize;
 
 /// What a prompt of two columns is sent as, at first.
@@ -20,11 +20,12 @@ const MOVES: usize = 16;
 fn read_at_once(alloc: Global, typed: &str) -> Result<String, Fail> {
     let mut taken = Vec::new(alloc);
     let mut host = NopLineEditorHost::new(alloc);
-    let mut keys = KeyReader::new(alloc, typed.as_bytes());
+    let keys = KeyReader::new(alloc, typed.as_bytes());
     let size = ScreenSize { rows: 24, cols: 80 };
     let answer = {
-        let mut terminal = PatientTerminal::new(alloc, &mut taken, size);
-        read_typed_line(alloc, &mut keys, &mut terminal, &mut host, "> ")?
+        let terminal = PatientTerminal::new(alloc, &mut taken, size);
+        let mut device = Joined::new(keys, terminal);
+        read_line_from(alloc, &mut device, &mut host, "> ")?
     };
     let Answer::Line(line) = answer else {
         return Err(Fail::from("no line"));
@@ -49,7 +50,7 @@ fn keys_that_come_at_once_are_sent_as_one_line(rt: HostRuntime) -> Result<(), Fa
 /// Reads a line whose keys come at once, and returns how that ends. The line `ab` is completed by what does not fit.
 fn read_to_end<T: DeviceTerminal>(
     alloc: Global,
-    mut terminal: T,
+    terminal: T,
     typed: &str,
 ) -> Result<&'static str, Fail>
 where
@@ -61,8 +62,8 @@ where
         range: 3..4,
         text: String::from_str(alloc, "abc")?,
     })?;
-    let mut keys = KeyReader::new(alloc, typed.as_bytes());
-    match read_typed_line(alloc, &mut keys, &mut terminal, &mut host, "> ") {
+    let mut device = Joined::new(KeyReader::new(alloc, typed.as_bytes()), terminal);
+    match read_line_from(alloc, &mut device, &mut host, "> ") {
         Ok(Answer::End(_)) => Ok("end"),
         Err(Error::CandidateDoesNotFit) => Ok("misfit"),
         _ => Err(Fail::from("another answer")),
@@ -76,7 +77,6 @@ fn read_refused(alloc: Global, row: &str) -> Result<String, Fail> {
     let mut taken = Vec::new(alloc);
     let end = match kind {
         "ansi" => read_to_end(alloc, AnsiTerminal::new(alloc, &mut taken, SIZE), typed)?,
-        "sparing" => read_to_end(alloc, SparingTerminal::new(alloc, &mut taken, SIZE), typed)?,
         _ => read_to_end(alloc, PatientTerminal::new(alloc, &mut taken, SIZE), typed)?,
     };
     taken.push(b'_')?;
@@ -89,9 +89,6 @@ const REFUSED: &str = r"
 ansi ab\u{4} => end > ab/_
 ansi ab\u{4}ls\r => end > ab/_
 ansi ab\tls\r => misfit > ab/_
-sparing ab\u{4} => end > ab/_
-sparing ab\u{4}ls\r => end > ab/_
-sparing ab\tls\r => misfit > ab/_
 patient ab\u{4} => end > ab/_
 patient ab\u{4}ls\r => end > ab/_
 patient ab\tls\r => misfit > ab/_

@@ -8,8 +8,8 @@ use std::io::Read;
 use std::test::Fail;
 use test_cases::expect_rows;
 use tw_device::{
-    AnsiTerminal, Answer, Escape, EventLog, EventSource, KeyReader, SourceState, read_line_from,
-    read_typed_line,
+    AnsiTerminal, Answer, Escape, EventLog, EventSource, Joined, KeyReader, SourceState,
+    read_line_from,
 };
 use tw_input::{InputEvent, KeyCode, KeyEvent, Modifiers};
 use tw_lineedit::{Error, NopLineEditorHost};
@@ -124,16 +124,17 @@ fn typed_text(alloc: Global, arguments: &str, is_sized: bool) -> Result<String, 
     let (refused, rest) = arguments.split_once(' ').ok_or("no count")?;
     let (count, characters) = rest.split_once(' ').ok_or("no characters")?;
     let mut host = NopLineEditorHost::new(alloc);
-    let mut source = Typed::new(characters.as_bytes(), refused.parse()?);
+    let source = Typed::new(characters.as_bytes(), refused.parse()?);
+    let mut device = Joined::new(source, terminal(alloc));
     let mut output = String::new(alloc);
     for number in 0..count.parse()? {
-        let mut terminal = terminal(alloc);
-        let answer = read_line_from(alloc, &mut source, &mut terminal, &mut host, "> ");
+        device.terminal = terminal(alloc);
+        let answer = read_line_from(alloc, &mut device, &mut host, "> ");
         let answer = answer_text(alloc, &answer)?;
         let parting = if number == 0 { "" } else { "; " };
         write!(output, "{parting}{answer}")?;
         if is_sized {
-            let size = terminal.get_screen_size()?;
+            let size = device.get_screen_size()?;
             write!(output, " {}x{}", size.cols, size.rows)?;
         }
     }
@@ -143,20 +144,14 @@ fn typed_text(alloc: Global, arguments: &str, is_sized: bool) -> Result<String, 
 /// Reads a line from bytes in pieces of `step`. `new` is a reader with the default for a lone ESC.
 fn line_of(alloc: Global, kind: &str, bytes: &[u8], step: usize) -> Result<String, Fail> {
     let mut host = NopLineEditorHost::new(alloc);
-    let mut screen = terminal(alloc);
-    let reader = Pieces { bytes, step };
-    let answer = if kind == "new" {
-        let mut keys = KeyReader::new(alloc, reader);
-        read_line_from(alloc, &mut keys, &mut screen, &mut host, "> ")
-    } else {
-        let escape = if kind == "waits" {
-            Escape::Waits
-        } else {
-            Escape::AtOnce
-        };
-        let mut keys = KeyReader::new(alloc, reader).with_escape(escape);
-        read_typed_line(alloc, &mut keys, &mut screen, &mut host, "> ")
+    let keys = KeyReader::new(alloc, Pieces { bytes, step });
+    let keys = match kind {
+        "new" => keys,
+        "waits" => keys.with_escape(Escape::Waits),
+        _ => keys.with_escape(Escape::AtOnce),
     };
+    let mut device = Joined::new(keys, terminal(alloc));
+    let answer = read_line_from(alloc, &mut device, &mut host, "> ");
     Ok(answer_text(alloc, &answer)?)
 }
 

@@ -5,9 +5,9 @@ use std::alloc::Global;
 use std::io::{self, ErrorKind, Read, Write};
 use std::test::Fail;
 use test_cases::expect_rows;
-use tw_device::{AnsiTerminal, Answer, DeviceTerminal, KeyReader, read_typed_line};
+use tw_device::{AnsiTerminal, Answer, DeviceTerminal, Joined, KeyReader, read_line_from};
 use tw_lineedit::NopLineEditorHost;
-use tw_sparing::{PatientTerminal, SparingTerminal};
+use tw_sparing::PatientTerminal;
 use tw_terminal::ScreenSize;
 
 /// The size of the screen.
@@ -89,21 +89,26 @@ impl Read for Slow<'_> {
 }
 
 /// Reads a line of these keys, and returns true if it is answered.
-fn reads<T: DeviceTerminal>(alloc: Global, terminal: &mut T, keys: &str) -> Result<bool, Fail> {
+fn reads<'a, T: DeviceTerminal>(
+    alloc: Global,
+    device: &mut Joined<KeyReader<&'a [u8]>, T>,
+    keys: &'a str,
+) -> bool {
     let mut host = NopLineEditorHost::new(alloc);
-    let mut keys = KeyReader::new(alloc, keys.as_bytes());
-    let answer = read_typed_line(alloc, &mut keys, terminal, &mut host, "> ");
-    Ok(matches!(answer, Ok(Answer::Line(_))))
+    device.source = KeyReader::new(alloc, keys.as_bytes());
+    let answer = read_line_from(alloc, device, &mut host, "> ");
+    matches!(answer, Ok(Answer::Line(_)))
 }
 
 /// Reads three lines, and returns true for each that is answered.
-fn read_three<T: DeviceTerminal>(alloc: Global, mut terminal: T) -> Result<[bool; 3], Fail>
+fn read_three<T: DeviceTerminal>(alloc: Global, terminal: T) -> Result<[bool; 3], Fail>
 where
     T: Drop,
 {
-    let first = reads(alloc, &mut terminal, "ab\u{2}x\r")?;
-    let second = reads(alloc, &mut terminal, "cd\r")?;
-    let third = reads(alloc, &mut terminal, "ef\r")?;
+    let mut device = Joined::new(KeyReader::new(alloc, b"".as_slice()), terminal);
+    let first = reads(alloc, &mut device, "ab\u{2}x\r");
+    let second = reads(alloc, &mut device, "cd\r");
+    let third = reads(alloc, &mut device, "ef\r");
     Ok([first, second, third])
 }
 
@@ -124,7 +129,6 @@ fn play(alloc: Global, row: &str) -> Result<String, Fail> {
         let writer = Flaky::new(&mut taken, &mut flushes, write, flush);
         let answered = match kind {
             "ansi" => read_three(alloc, AnsiTerminal::new(alloc, writer, SIZE))?,
-            "sparing" => read_three(alloc, SparingTerminal::new(alloc, writer, SIZE))?,
             _ => read_three(alloc, PatientTerminal::new(alloc, writer, SIZE))?,
         };
         if answered != [true, true, true] {
@@ -138,13 +142,11 @@ fn play(alloc: Global, row: &str) -> Result<String, Fail> {
     Ok(format!(in alloc; "{refused}")?)
 }
 
-/// The readings have 5, 3 and 3 keys, so 7, 5 and 5 batches with the first painting and the closing one. Of those the
-/// paintings after Enter differ in nothing, and a patient terminal sends the first, the last and the closing one.
+/// The readings have 5, 3 and 3 keys, so 7, 5 and 5 batches with the first painting and the closing one. Of those a
+/// patient terminal sends the first, the last and the closing one.
 const FAULTS: &str = "\
 ansi write => 17
 ansi flush => 3
-sparing write => 14
-sparing flush => 3
 patient write => 9
 patient flush => 3
 ";
@@ -164,14 +166,14 @@ fn read_again(alloc: Global, row: &str) -> Result<String, Fail> {
         reads: 0,
         refused: row.parse()?,
     };
-    let mut keys = KeyReader::new(alloc, reader);
+    let mut taken = Vec::new(alloc);
+    let mut flushes = 0;
+    let writer = Flaky::new(&mut taken, &mut flushes, 0, 0);
+    let terminal = AnsiTerminal::new(alloc, writer, SIZE);
+    let mut device = Joined::new(KeyReader::new(alloc, reader), terminal);
     let mut told = String::new(alloc);
     for _ in 0..2 {
-        let mut taken = Vec::new(alloc);
-        let mut flushes = 0;
-        let writer = Flaky::new(&mut taken, &mut flushes, 0, 0);
-        let mut terminal = AnsiTerminal::new(alloc, writer, SIZE);
-        let answer = read_typed_line(alloc, &mut keys, &mut terminal, &mut host, "> ");
+        let answer = read_line_from(alloc, &mut device, &mut host, "> ");
         match &answer {
             Ok(Answer::Line(line)) => told.push_str(line.as_str())?,
             Ok(_) => told.push_str("-")?,

@@ -6,7 +6,7 @@ use std::test::Fail;
 use std::{io, str};
 use test_cases::{expect_rows, pair_of};
 use tw_device::DeviceTerminal;
-use tw_sparing::{PatientTerminal, SparingTerminal};
+use tw_sparing::PatientTerminal;
 use tw_surface::{CellAttributes, Change, ColorAttribute, Position};
 use tw_terminal::ScreenSize;
 
@@ -151,31 +151,24 @@ impl Write for Wire<'_> {
     }
 }
 
-/// Returns the bytes that are sent for the first `count` commands.
-fn sent(alloc: Global, kind: &str, commands: &str, count: usize) -> Result<Vec<u8>, Fail> {
-    let (size, refused) = kind.rsplit_once(' ').ok_or("no refused write")?;
-    let (kind, size) = size.split_once(' ').ok_or("no size")?;
+/// Returns the bytes that are sent for the first `count` commands at a terminal of `ROWS COLS REFUSED`.
+fn sent(alloc: Global, terminal: &str, commands: &str, count: usize) -> Result<Vec<u8>, Fail> {
+    let (size, refused) = terminal.rsplit_once(' ').ok_or("no refused write")?;
     let (rows, cols) = pair_of(size)?;
-    let size = ScreenSize { rows, cols };
     let mut taken = Vec::new(alloc);
     let wire = Wire::new(&mut taken, refused.parse()?);
-    if kind == "patient" {
-        let mut terminal = PatientTerminal::new(alloc, wire, size);
-        do_all(alloc, &mut terminal, commands, count)?;
-    } else {
-        let mut terminal = SparingTerminal::new(alloc, wire, size);
-        do_all(alloc, &mut terminal, commands, count)?;
-    }
+    let mut terminal = PatientTerminal::new(alloc, wire, ScreenSize { rows, cols });
+    do_all(alloc, &mut terminal, commands, count)?;
     Ok(taken)
 }
 
-/// Returns the bytes that are sent for the last command, or their number if it exceeds 100: `KIND ROWS COLS REFUSED;
-/// COMMAND; ..`, with `patient` or `sparing` for `KIND`, and the number of the write that fails, or 0.
+/// Returns the bytes that are sent for the last command, or their number if it exceeds 100: `ROWS COLS REFUSED;
+/// COMMAND; ..`, with the number of the write that fails, or 0.
 fn last_sent(alloc: Global, run: &str) -> Result<String, Fail> {
-    let (kind, commands) = run.split_once("; ").ok_or("no command")?;
+    let (terminal, commands) = run.split_once("; ").ok_or("no command")?;
     let count = commands.split("; ").count();
-    let before = sent(alloc, kind, commands, count.saturating_sub(1))?;
-    let all = sent(alloc, kind, commands, count)?;
+    let before = sent(alloc, terminal, commands, count.saturating_sub(1))?;
+    let all = sent(alloc, terminal, commands, count)?;
     let last = all
         .as_slice()
         .strip_prefix(before.as_slice())
@@ -188,96 +181,96 @@ fn last_sent(alloc: Global, run: &str) -> Result<String, Fail> {
 
 const LINES: &str = r"
 // a character at the end is one byte
-sparing 24 20000 0; long 1; long 1 y => y
-sparing 24 20000 0; long 10; long 10 y => y
-sparing 24 20000 0; long 1000; long 1000 y => y
-sparing 24 20000 0; long 10000; long 10000 y => y
+24 20000 0; long 1; long 1 y => y
+24 20000 0; long 10; long 10 y => y
+24 20000 0; long 1000; long 1000 y => y
+24 20000 0; long 10000; long 10000 y => y
 
 // the first line is sent whole
-sparing 24 80 0; line 0 3 > a => \r\e[K\e[C\e[J\r\e[0m> a\r\e[3C
+24 80 0; line 0 3 > a => \r\e[K\e[C\e[J\r\e[0m> a\r\e[3C
 
 // what is shown is not sent again
-sparing 24 80 0; line 0 4 > ab; line 0 4 > ab =>
+24 80 0; line 0 4 > ab; line 0 4 > ab =>
 
 // a key to the left is one byte
-sparing 24 80 0; line 0 4 > ab; line 0 3 > ab => \u{8}
+24 80 0; line 0 4 > ab; line 0 3 > ab => \u{8}
 
 // the cursor goes the short way
-sparing 24 80 0; line 0 12 > abcdefghij; line 0 9 > abcdefghij => \u{8}\u{8}\u{8}
-sparing 24 80 0; line 0 12 > abcdefghij; line 0 8 > abcdefghij => \e[4D
-sparing 24 80 0; line 0 12 > abcdefghij; line 0 0 > abcdefghij => \r
-sparing 24 80 0; line 0 4 > abcdefghij; line 0 5 > abcdefghij => \e[C
-sparing 24 80 0; line 0 2 > abcdefghij; line 0 12 > abcdefghij => \e[10C
+24 80 0; line 0 12 > abcdefghij; line 0 9 > abcdefghij => \u{8}\u{8}\u{8}
+24 80 0; line 0 12 > abcdefghij; line 0 8 > abcdefghij => \e[4D
+24 80 0; line 0 12 > abcdefghij; line 0 0 > abcdefghij => \r
+24 80 0; line 0 4 > abcdefghij; line 0 5 > abcdefghij => \e[C
+24 80 0; line 0 2 > abcdefghij; line 0 12 > abcdefghij => \e[10C
 
 // a cell of the row above is two moves away
-sparing 24 80 0; line 0 1 a\r\nb; line -1 1 x\r\nb => \e[A\rx\n
+24 80 0; line 0 1 a\r\nb; line -1 1 x\r\nb => \e[A\rx\n
 
 // a shorter line is emptied behind its end
-sparing 24 80 0; line 0 5 > abc; line 0 4 > ab => \u{8}\e[J
+24 80 0; line 0 5 > abc; line 0 4 > ab => \u{8}\e[J
 
 // the last row scrolls
-sparing 3 10 0; line 0 1 a\r\nb\r\nc; line -2 1 a\r\nb\r\nc\r\nd => \r\nd
+3 10 0; line 0 1 a\r\nb\r\nc; line -2 1 a\r\nb\r\nc\r\nd => \r\nd
 
 // a row that was reached before is one move away
-sparing 24 80 0; line 0 1 a\r\n\r\n\r\n\r\n\r\nf; line -5 1 a; line 0 1 a\r\n\r\n\r\n\r\n\r\nf => \e[5B\rf
+24 80 0; line 0 1 a\r\n\r\n\r\n\r\n\r\nf; line -5 1 a; line 0 1 a\r\n\r\n\r\n\r\n\r\nf => \e[5B\rf
 
 // a full row is followed by the next one
-sparing 3 10 0; line 0 9 > 2345678; line 0 0 > 23456789\r\n => 9\r\n
+3 10 0; line 0 9 > 2345678; line 0 0 > 23456789\r\n => 9\r\n
 
 // a line that goes on is typed through the rows
-sparing 3 10 0; line 0 9 > 2345678; line 0 3 > 23456789abcdefghijklm => 9abcdefghijklm
+3 10 0; line 0 9 > 2345678; line 0 3 > 23456789abcdefghijklm => 9abcdefghijklm
 
 // other characters are sent as they are
-sparing 24 80 0; line 0 3 > a; line 0 3 > é => \r\e[K\e[C\e[J\r\e[0m> é\r\e[3C
+24 80 0; line 0 3 > a; line 0 3 > é => \r\e[K\e[C\e[J\r\e[0m> é\r\e[3C
 
 // behind them a line is sent whole
-sparing 24 80 0; line 0 3 > é; line 0 3 > b => \r\e[K\e[C\e[J\r\e[0m> b\r\e[3C
-sparing 24 80 0; line 0 3 > é; line 0 3 > b; line 0 4 > bc => c
+24 80 0; line 0 3 > é; line 0 3 > b => \r\e[K\e[C\e[J\r\e[0m> b\r\e[3C
+24 80 0; line 0 3 > é; line 0 3 > b; line 0 4 > bc => c
 
 // behind a refused write a line is sent whole
-sparing 24 80 2; line 0 2 >\u{20}; line 0 3 > a; line 0 4 > ab => \r\e[K\e[C\e[J\r\e[0m> ab\r\e[4C
-sparing 24 80 2; line 0 2 >\u{20}; line 0 3 > a; line 0 4 > ab; line 0 5 > abc => c
+24 80 2; line 0 2 >\u{20}; line 0 3 > a; line 0 4 > ab => \r\e[K\e[C\e[J\r\e[0m> ab\r\e[4C
+24 80 2; line 0 2 >\u{20}; line 0 3 > a; line 0 4 > ab; line 0 5 > abc => c
 
 // of more rows than the terminal has those in sight are sent
-sparing 2 10 0; line 0 1 a\r\nb\r\nc; line -2 2 a\r\nb\r\ncd => d
+2 10 0; line 0 1 a\r\nb\r\nc; line -2 2 a\r\nb\r\ncd => d
 
 // of more rows than the terminal has a new one scrolls
-sparing 2 10 0; line 0 1 a\r\nb\r\nc; line -2 1 a\r\nb\r\nc\r\nd => \r\nd
+2 10 0; line 0 1 a\r\nb\r\nc; line -2 1 a\r\nb\r\nc\r\nd => \r\nd
 
 // fewer rows than the terminal has are sent whole after more
-sparing 2 10 0; line 0 1 a\r\nb\r\nc; line -2 1 a => \e[2A\r\e[K\e[C\e[J\r\e[0ma\r\e[1C
+2 10 0; line 0 1 a\r\nb\r\nc; line -2 1 a => \e[2A\r\e[K\e[C\e[J\r\e[0ma\r\e[1C
 
 // behind a closed line the next one is sent as what differs, and of what stands above nothing is known
-sparing 24 80 0; line 0 3 > a; close => \r\n
-sparing 24 80 0; line 0 3 > a; close; line 0 3 > b => > b
-sparing 24 80 0; line 0 3 > a; close; line -1 3 > a => \e[1A\r\e[K\e[C\e[J\r\e[0m> a\r\e[3C
-patient 24 80 0; line 0 3 > a; close; line 0 3 > b => > b
-patient 24 80 0; line 0 3 > a; more 0 4 > ab; close => b\r\n
+24 80 0; line 0 3 > a; close => \r\n
+24 80 0; line 0 3 > a; close; line 0 3 > b => > b
+24 80 0; line 0 3 > a; close; line -1 3 > a => \e[1A\r\e[K\e[C\e[J\r\e[0m> a\r\e[3C
+24 80 0; line 0 3 > a; close; line 0 3 > b => > b
+24 80 0; line 0 3 > a; more 0 4 > ab; close => b\r\n
 
 // nothing is sent while keys are at hand
-patient 24 80 0; line 0 2 >\u{20}; more 0 3 > a =>
-patient 24 80 0; line 0 2 >\u{20}; more 0 3 > a; more 0 4 > ab =>
+24 80 0; line 0 2 >\u{20}; more 0 3 > a =>
+24 80 0; line 0 2 >\u{20}; more 0 3 > a; more 0 4 > ab =>
 
 // the last line is sent in one
-patient 24 80 0; line 0 2 >\u{20}; more 0 3 > a; more 0 4 > ab; line 0 5 > abc => abc
+24 80 0; line 0 2 >\u{20}; more 0 3 > a; more 0 4 > ab; line 0 5 > abc => abc
 
 // a thousand keys are sent as one line
-patient 24 2000 0; line 0 2 >\u{20}; keys 1000 => 1000 bytes
+24 2000 0; line 0 2 >\u{20}; keys 1000 => 1000 bytes
 
 // a flush sends what is kept back, and nothing of what was sent
-patient 24 80 0; line 0 2 >\u{20}; more 0 3 > a; more 0 4 > ab; flush => ab
-patient 24 80 0; line 0 2 >\u{20}; more 0 3 > a; flush; flush =>
-patient 24 80 0; line 0 2 >\u{20}; more 0 3 > a; flush; line 0 4 > ab => b
+24 80 0; line 0 2 >\u{20}; more 0 3 > a; more 0 4 > ab; flush => ab
+24 80 0; line 0 2 >\u{20}; more 0 3 > a; flush; flush =>
+24 80 0; line 0 2 >\u{20}; more 0 3 > a; flush; line 0 4 > ab => b
 
 // what is kept back goes before a line of other characters, a text of the owner, and a new size
-patient 24 80 0; line 0 2 >\u{20}; more 0 3 > a; more 0 3 > é => a\r\e[K\e[C\e[J\r\e[0m> é\r\e[3C
-patient 24 80 0; line 0 2 >\u{20}; more 0 3 > a; says note\r\n => a\e[0mnote\r\n
-patient 24 80 0; line 0 2 >\u{20}; more 0 3 > a; says note\r\n; line 0 3 > a => \r\e[K\e[C\e[J\r\e[0m> a\r\e[3C
-patient 24 80 0; line 0 2 >\u{20}; more 0 3 > a; size 24 80 => a
+24 80 0; line 0 2 >\u{20}; more 0 3 > a; more 0 3 > é => a\r\e[K\e[C\e[J\r\e[0m> é\r\e[3C
+24 80 0; line 0 2 >\u{20}; more 0 3 > a; says note\r\n => a\e[0mnote\r\n
+24 80 0; line 0 2 >\u{20}; more 0 3 > a; says note\r\n; line 0 3 > a => \r\e[K\e[C\e[J\r\e[0m> a\r\e[3C
+24 80 0; line 0 2 >\u{20}; more 0 3 > a; size 24 80 => a
 
 // after a refused write a line is sent whole
-patient 24 80 2; line 0 2 >\u{20}; more 0 3 > a; line 0 4 > ab; line 0 5 > abc => \r\e[K\e[C\e[J\r\e[0m> abc\r\e[5C
-patient 24 80 2; line 0 2 >\u{20}; more 0 3 > a; flush; line 0 4 > ab => \r\e[K\e[C\e[J\r\e[0m> ab\r\e[4C
+24 80 2; line 0 2 >\u{20}; more 0 3 > a; line 0 4 > ab; line 0 5 > abc => \r\e[K\e[C\e[J\r\e[0m> abc\r\e[5C
+24 80 2; line 0 2 >\u{20}; more 0 3 > a; flush; line 0 4 > ab => \r\e[K\e[C\e[J\r\e[0m> ab\r\e[4C
 ";
 
 #[test]

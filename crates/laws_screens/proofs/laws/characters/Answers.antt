@@ -2,11 +2,5 @@ use Rattle.laws_screens.proofs.FreshCharacters.{fresh_plain}
 use Rattle.laws_screens.proofs.PlayedCharacters.{plays_batches, plays_batches_on}
 use Rattle.laws_screens.proofs.laws.characters.Goals as goal
 
-pub returns-clause-without_bottom : goal.returns-clause-without_bottom
-returns-clause-without_bottom c = plays_batches
-
-pub returns-clause-fresh : goal.returns-clause-fresh
-returns-clause-fresh c = fresh_plain
-
-pub returns-clause-on_rows : goal.returns-clause-on_rows
-returns-clause-on_rows c = plays_batches_on
+pub returns : goal.returns
+returns c = record { without_bottom = plays_batches; on_rows = plays_batches_on; fresh = fresh_plain }

@@ -1,20 +1,22 @@
 use Rattle.std.proofs.Common.{◌≡◌, ◌+◌, length, true}
 use Rattle.tw_lineedit.specs.Frame.{frame}
 use Rattle.tw_lineedit.specs.Outcomes.{is_open}
-use Rattle.tw_device.specs.Asked.{TakesEvents}
-use Rattle.tw_device.specs.Led.{taken_on}
-use Rattle.tw_device.specs.Live.{ComesBy}
+use Rattle.tw_device.specs.Live.{taken_on, ComesBy}
+use Rattle.tw_device.specs.Steps.{events_in, Goes}
 use Rattle.tw_device.proofs.reading.take_events.Given as goal
 
 abbrev pub invariant-loop-turn : goal.invariant-loop-turn
 invariant-loop-turn g l =
-    let state = g.T.Terminal.state in
+    let state = g.D.Terminal.state in
+    let log = g.D.Device.log in
+    let value = g.H.LineEditorHost.value in
+    let before = frame state value l.fn.editor l.fn.host in
+    let old = l.fn.editor.terminal.now in
+    let new = l.editor.terminal.now in
     record {
       same_reference : l.editor.terminal.ghost_name ≡ l.fn.editor.terminal.ghost_name;
-      comes : ComesBy g.H.LineEditorHost.rules g.H.LineEditorHost.OVERRIDES (g.S.EventSource.told l.fn.source) (g.S.EventSource.told l.source)
-          (frame state g.H.LineEditorHost.value l.fn.editor l.fn.host) (frame state g.H.LineEditorHost.value l.editor l.host);
-      count : length (g.S.EventSource.told l.source) ≡ length (g.S.EventSource.told l.fn.source) + l.turn;
-      taken : TakesEvents g.T.Terminal.state g.T.Terminal.follows g.T.DeviceTerminal.may_keep g.T.DeviceTerminal.does g.S.EventSource.at_hand g.S.EventSource.follows g.S.EventSource.told
-          (taken_on g.H.LineEditorHost.rules (frame state g.H.LineEditorHost.value l.fn.editor l.fn.host)) l.fn.source l.source l.fn.editor.terminal.now l.editor.terminal.now;
+      comes : ComesBy g.H.LineEditorHost.rules g.H.LineEditorHost.OVERRIDES (events_in (log old)) (events_in (log new)) before (frame state value l.editor l.host);
+      count : length (events_in (log new)) ≡ length (events_in (log old)) + l.turn;
+      goes : Goes state log g.D.Device.law (taken_on g.H.LineEditorHost.rules before) old new;
       still_open : is_open l.editor.session.state.mode ≡ true;
     }

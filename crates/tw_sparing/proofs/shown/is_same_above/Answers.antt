@@ -1,9 +1,9 @@
 use Rattle.std.proofs.Common.{◌≡◌, ap, sym, subst, is_none, ◌∙◌, inl, inr, arith, rules}
 use Rattle.std.proofs.lemmas.Bool.{cases_eq}
 use Rattle.tw_line.specs.Extremes.{least_from}
-use Rattle.tw_changed.specs.Differences.{differ_in}
-use Rattle.tw_changed.specs.Sending.{screen_cells}
-use Rattle.tw_changed.proofs.FoundColumns.{none_differs, no_change}
+use Rattle.tw_sparing.specs.Differences.{differ_in}
+use Rattle.tw_sparing.specs.Sending.{screen_cells}
+use Rattle.tw_sparing.proofs.FoundColumns.{none_differs, no_change}
 use Rattle.tw_sparing.proofs.shown.is_same_above.Goals as goal
 
 pub returns-then-not-is_same_in_row-clause-found : goal.returns-then-not-is_same_in_row-clause-found

@@ -1,7 +1,7 @@
 use Rattle.std.proofs.Common.{◌≡◌, ◌-◌, ◌++◌, OnOk, IfOk, string_bytes, subst, sym}
-use Rattle.tw_changed.specs.StyledScreens.{StyledView}
+use Rattle.tw_sparing.specs.StyledScreens.{StyledView}
 use Rattle.tw_ansi.specs.Encoding.{terse_batch}
-use Rattle.tw_changed.specs.Sending.{IsPrintable}
+use Rattle.tw_sparing.specs.Sending.{IsPrintable}
 use Rattle.tw_sparing.proofs.CutScreens.{cut_printable, same_changes, same_whole}
 use Rattle.tw_sparing.proofs.shown.send_below.Goals as goal
 

@@ -1,9 +1,0 @@
--- No column before this one differs.
-use Rattle.tw_line.specs.Extremes.{NonePasses}
-use Rattle.tw_changed.specs.Differences.{differ_in}
-use Rattle.tw_changed.specs.Redrawings.{left_of}
-use Rattle.tw_changed.specs.Sending.{screen_cells}
-use Rattle.tw_changed.proofs.difference.first_changed.Given as goal
-
-abbrev pub invariant-loop-col : goal.invariant-loop-col
-invariant-loop-col l = NonePasses (differ_in (left_of l.old.width l.from (screen_cells l.old) l.row) (screen_cells l.new l.row)) 0 l.col

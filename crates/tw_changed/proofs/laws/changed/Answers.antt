@@ -1,5 +1,0 @@
-use Rattle.tw_changed.proofs.ShownChanges.{changed_is_shown}
-use Rattle.tw_changed.proofs.laws.changed.Goals as goal
-
-pub returns : goal.returns
-returns c = changed_is_shown

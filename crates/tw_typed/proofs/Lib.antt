@@ -1,0 +1,4 @@
+pub mod MarkLemmas
+pub mod SieveLemmas
+pub mod TypedLemmas
+mod WorkedBytes

@@ -1,0 +1,4 @@
+pub mod PieceLaws
+pub mod Sieve
+pub mod SieveLaws
+pub mod Typed
