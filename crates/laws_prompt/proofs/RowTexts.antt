@@ -183,7 +183,7 @@ edge-off cols (suc m) two e = elim (cases_eq (suc m % cols) 0) [
       absurd (more (ap (λ i. i % cols) (sym same) ∙ (rw edge at e)))
 ]
 
--- n columns that do not fill their last row take as many rows as they are told to
+-- n columns that do not fill their last row take as many rows as are said
 pub rows-off-edge : (cols n : ℕ) → 2 ≤ cols → (n % cols ≡ 0 → n ≡ 0) → max 1 ((n + cols - 1) / cols) ≡ 1 + n / cols
 rows-off-edge cols zero two off = let none : (0 + cols - 1) / cols ≡ 0 = ap (λ i. i / cols) (omega arith) ∙ div-mul-add 0 cols (cols - 1) (omega (arith, two)) in
     let nothing : 0 / cols ≡ 0 = (let e : 0 ≡ 0 * cols + 0 = omega arith in ap (λ i. i / cols) e ∙ div-mul-add 0 cols 0 (omega (arith, two))) in

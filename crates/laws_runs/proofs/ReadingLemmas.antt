@@ -235,7 +235,7 @@ module _ {V : Type 0} (rules : HostRules V) where
   module _ {W : Type 0} (contents : W → Option (List ℕ)) where
     -- ---- what is sent on the way
 
-    -- these sized batches were sent on the way, and so many columns are known then
+    -- these sized batches were sent on the way, and these columns are known then
     abbrev IsSentAs : List SizedBatch → ℕ → AnsiTerminal W → AnsiTerminal W → Type 0
     IsSentAs played w old new = Appends (contents old.writer) (contents new.writer) (sent_sized played old.sent.encoder).bytes
         × (new.sent.encoder ≡ (sent_sized played old.sent.encoder).next) × (new.sent.encoder.cols ≡ w)
@@ -437,8 +437,8 @@ sized_after-both mark (x ∷ xs) ys =
     ap (λ l. first ++ l) (sized_after-both next xs ys) ∙ sym (append_assoc first (sized_after next xs) (sized_after (mark_after next (map shot_of xs)) ys))
 
 -- those that are sent at w columns
-uniform : (h w : ℕ) (mark : Option Mark) (xs : List SizedScene) → AllByRecursion (IsSentAt h w) xs → sized_after mark xs ≡ sized_at w (map (λ sized. sized.batch) (sized_after mark xs))
-uniform h w mark xs a = sized_uniformly h w mark xs a ∙ ap (sized_at w) (sym (sized_are mark xs))
+uniform : (w : ℕ) (mark : Option Mark) (xs : List SizedScene) → AllByRecursion (IsSentAt w) xs → sized_after mark xs ≡ sized_at w (map (λ sized. sized.batch) (sized_after mark xs))
+uniform w mark xs a = sized_uniformly w mark xs a ∙ ap (sized_at w) (sym (sized_are mark xs))
 
 module _ {V : Type 0} (rules : HostRules V) where
   -- the stations since some, and whatever comes after them, set their columns
@@ -449,14 +449,14 @@ module _ {V : Type 0} (rules : HostRules V) where
 
   -- What a run sends: the bytes of the stations before a clearing, at any sizes, those of the stations since then, and
   -- the rest.
-  sent_in_parts : (f : Frame V) (e : Encoder) (h w : ℕ) (earlier since : List (Station V)) (station : Station V) (later : List (Station V))
-      → stations_of rules f ≡ earlier ++ (since ++ station ∷ later) → AllByRecursion (IsSentAt h w) (map (sized_scene rules) (since ++ station ∷ []))
+  sent_in_parts : (f : Frame V) (e : Encoder) (w : ℕ) (earlier since : List (Station V)) (station : Station V) (later : List (Station V))
+      → stations_of rules f ≡ earlier ++ (since ++ station ∷ later) → AllByRecursion (IsSentAt w) (map (sized_scene rules) (since ++ station ∷ []))
       → let before = sent_sized (stations_sized rules earlier) e in
       let sent = sent_batches (taken_since rules earlier since station) (record before.next { cols = w }) in
       let last = mark_after (mark_after None (map shot_of (map (sized_scene rules) earlier))) (map shot_of (map (sized_scene rules) (since ++ station ∷ []))) in
       let rest = sent_sized (sized_from rules last later ++ sized_at (run_of rules f).size.cols (closing_if (run_of rules f).mark)) sent.next in
       sent_sized (run_sized rules f) e ≡ record { bytes = before.bytes ++ (sent.bytes ++ rest.bytes); next = rest.next }
-  sent_in_parts f e h w earlier since station later stations-are sent-at =
+  sent_in_parts f e w earlier since station later stations-are sent-at =
       let scenes : List (Station V) → List SizedScene = map (sized_scene rules) in
       let mark : Option Mark = mark_after None (map shot_of (scenes earlier)) in
       let last : Option Mark = mark_after mark (map shot_of (scenes (since ++ station ∷ []))) in
@@ -478,7 +478,7 @@ module _ {V : Type 0} (rules : HostRules V) where
       ∙ append_assoc a (b ++ c) closing
       ∙ ap (λ l. a ++ l) (append_assoc b c closing) in
       let since_sent : sent_sized b known ≡ sent_batches taken known =
-      ap (λ l. sent_sized l known) (uniform h w mark (scenes (since ++ station ∷ [])) sent-at) ∙ sized_known w taken known refl in
+      ap (λ l. sent_sized l known) (uniform w mark (scenes (since ++ station ∷ [])) sent-at) ∙ sized_known w taken known refl in
       let behind : sent_sized (b ++ (c ++ closing)) before.next ≡ sent_then (sent_batches taken known) (sent_sized (c ++ closing)) =
       sym (since_set mark since station (c ++ closing) before.next w) ∙ sized_both b (c ++ closing) known ∙ ap (λ (s : Sent). sent_then s (sent_sized (c ++ closing))) since_sent in
       ap (λ l. sent_sized l e) all ∙ sized_both a (b ++ (c ++ closing)) e ∙ ap (λ (s : Sent). record { bytes = before.bytes ++ s.bytes; next = s.next }) behind
@@ -486,13 +486,13 @@ module _ {V : Type 0} (rules : HostRules V) where
   module _ {W : Type 0} (contents : W → Option (List ℕ)) where
     -- the bytes of the stations since a clearing come after the ones before it
     pub since_is_sent : SinceIsSent rules contents
-    since_is_sent prompt value old new events held h w earlier since station later q =
+    since_is_sent prompt value old new events held w earlier since station later q =
         let written = readings_are_sized rules contents prompt value old new events held q.reading in
-        (_, written.0 ∙ ap (λ (s : Sent). Some (held ++ s.bytes)) (sent_in_parts (reading_frame prompt value old events) old.sent.encoder h w earlier since station later q.stations q.sent))
+        (_, written.0 ∙ ap (λ (s : Sent). Some (held ++ s.bytes)) (sent_in_parts (reading_frame prompt value old events) old.sent.encoder w earlier since station later q.stations q.sent))
 
     -- where that station is the last one, they and those of the closing batch are all that comes after
     pub since_is_sent_whole : SinceIsSentWhole rules contents
-    since_is_sent_whole prompt value old new events held h w earlier since station q =
+    since_is_sent_whole prompt value old new events held w earlier since station q =
         let f : Frame V = reading_frame prompt value old events in
         let written = readings_are_sized rules contents prompt value old new events held q.reading in
         let reads = reads_of rules contents prompt value old new events held q.reading.reading in
@@ -503,10 +503,10 @@ module _ {V : Type 0} (rules : HostRules V) where
         let begun : Sent = sent_batches taken e in
         let size = ends_at rules events false (progress_of f) f.terminal.size (sym reads.left) (subst IsAnswer reads.answer_is (answered q.reading.reading.answer)) in
         let last = ap (last_size rules f.terminal.size) (q.stations ∙ sym (append_assoc earlier since (station ∷ []))) ∙ last_size-is rules f.terminal.size (earlier ++ since) station in
-        let here : IsSentAt h w (sized_scene rules station) = last_of_all (IsSentAt h w) (sized_scene rules) since station q.sent in
+        let here : IsSentAt w (sized_scene rules station) = last_of_all (IsSentAt w) (sized_scene rules) since station q.sent in
         let cols : begun.next.cols ≡ (run_of rules f).size.cols = cols_stay taken e ∙ sym here.cols ∙ ap (λ size. size.cols) (sym last ∙ size) in
         let is : sent_sized (run_sized rules f) old.sent.encoder ≡ record { bytes = before.bytes ++ (sent_batches (taken ++ end) e).bytes; next = (sent_batches (taken ++ end) e).next } =
-        sent_in_parts f old.sent.encoder h w earlier since station [] q.stations q.sent
+        sent_in_parts f old.sent.encoder w earlier since station [] q.stations q.sent
         ∙ ap (λ (s : Sent). record { bytes = before.bytes ++ (begun.bytes ++ s.bytes); next = s.next }) (sized_known (run_of rules f).size.cols end begun.next cols)
         ∙ ap (λ (s : Sent). record { bytes = before.bytes ++ s.bytes; next = s.next }) (sym (sent_both taken end e)) in
         (written.0 ∙ ap (λ (s : Sent). Some (held ++ s.bytes)) is, written.1 ∙ ap (λ (s : Sent). s.next) is)

@@ -389,6 +389,7 @@ module _ {A C : Type 0} (pen : Pen A C) where
       record {
         comes = k.comes;
         sent = k.sent;
+        high = k.high;
         back = k.back;
         narrow = k.narrow;
         color = kept.1;

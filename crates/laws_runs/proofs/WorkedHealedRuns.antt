@@ -180,9 +180,10 @@ module _ (it : AnsiTerminal Wrote) where
         in_sight = omega arith;
       };
       sent = (
-        record { cols = refl; showable = record { typed = record { prompt = (refl, tt); line = (refl, tt); lower = tt }; near = omega arith; back = omega arith; under = omega arith } },
-        (record { cols = refl; showable = record { typed = record { prompt = (refl, tt); line = (refl, tt); lower = tt }; near = omega arith; back = omega arith; under = omega arith } }, tt),
+        record { cols = refl; typed = record { prompt = (refl, tt); line = (refl, tt); lower = tt } },
+        (record { cols = refl; typed = record { prompt = (refl, tt); line = (refl, tt); lower = tt } }, tt),
       );
+      high = omega arith;
       back = λ m is. subst IsBack is (omega arith);
       narrow = omega arith;
       color = tt;
@@ -236,7 +237,7 @@ module _ (it : AnsiTerminal Wrote) where
     unfolding worked_runs
     ended_by_law =
         let closes = healed_closings_are_shown characters rules (frame it events) 4 10 earlier (at 3 ∷ []) (at 4) [] (scene 3 ∷ []) (scene 4) known anything (λ change a. refl) characters_join heals (All-nil (RendersNothing rules)) in
-        let sent = since_is_sent_whole rules Some prompt [] (old it) new events (63 ∷ []) 4 10 earlier (at 3 ∷ []) (at 4) (record { reading = reading; stations = refl; sent = heals.sent }) in
+        let sent = since_is_sent_whole rules Some prompt [] (old it) new events (63 ∷ []) 10 earlier (at 3 ∷ []) (at 4) (record { reading = reading; stations = refl; sent = heals.sent }) in
         let shown = closes.3.0 in
         let below = closes.3.1 in (
           (sent_batches (taken_since rules earlier (at 3 ∷ []) (at 4) ++ closing_if (run_of rules (frame it events)).mark) known).bytes,
@@ -266,6 +267,7 @@ module _ (it : AnsiTerminal Wrote) where
     heals_again = resized_heals characters rules 4 10 (frame it events) earlier (at 3 ∷ []) (at 4) [] (scene 3 ∷ []) (scene 4) (first_known 5) first anything (record {
       comes = heals.comes;
       sent = heals.sent;
+      high = heals.high;
       back = heals.back;
       narrow = heals.narrow;
       typed = (

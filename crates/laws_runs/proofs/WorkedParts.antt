@@ -111,7 +111,7 @@ is_sized size t = record { bytes = sym (append-nil t.writer); known = refl; batc
 pub flushes : (t : AnsiTerminal Wrote) → Does Some t (flushed_now t) (Called Other)
 flushes t = record { bytes = sym (append-nil t.writer); known = refl; batches = sym (append-nil t.sent.batches); failures = omega arith }
 
--- steps that tell nothing before others in time, and an event that is told in time
+-- steps without an event before others in time, and an event in time
 pub past : (due : List EventView → List Batch) (taken : List Batch) (xs zs : List Step) → events_in xs ≡ [] → IsInTime due (taken ++ batches_in xs) zs → IsInTime due taken (xs ++ zs)
 past due taken xs zs none later = in_time_then due due taken xs zs (in_time_silent due taken xs none) later (λ seen. ap (λ l. due (l ++ seen)) (sym none))
 

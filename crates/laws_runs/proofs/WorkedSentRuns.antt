@@ -102,19 +102,20 @@ module _ (it : AnsiTerminal Wrote) where
   sent = record {
     comes = comes;
     sent = (
-      record { cols = refl; showable = record { typed = record { prompt = (refl, tt); line = (refl, tt); lower = tt }; near = omega arith; back = omega arith; under = omega arith } },
+      record { cols = refl; typed = record { prompt = (refl, tt); line = (refl, tt); lower = tt } },
       (
-        record { cols = refl; showable = record { typed = record { prompt = (refl, tt); line = (refl, tt); lower = tt }; near = omega arith; back = omega arith; under = omega arith } },
-        (record { cols = refl; showable = record { typed = record { prompt = (refl, tt); line = (refl, tt); lower = tt }; near = omega arith; back = omega arith; under = omega arith } }, tt),
+        record { cols = refl; typed = record { prompt = (refl, tt); line = (refl, tt); lower = tt } },
+        (record { cols = refl; typed = record { prompt = (refl, tt); line = (refl, tt); lower = tt } }, tt),
       ),
     );
+    high = omega arith;
     narrow = omega arith;
     color = tt;
     shows = first_is_shown characters 4 5 full (omega arith) (omega arith) refl refl refl refl;
   }
 
   -- a station for five columns is none that is sent at six
-  not_sent_at_six : IsSentAt 4 6 (scene 1) → ⊥
+  not_sent_at_six : IsSentAt 6 (scene 1) → ⊥
   unfolding worked_runs
   not_sent_at_six at_six = let off : 5 ≡ 6 = at_six.cols in omega (arith, off)
 

@@ -1,6 +1,6 @@
 -- A terminal whose size changes between the batches that it is sent stays at rest, and the attributes that are known
 -- stay those that are selected.
-use Rattle.std.specs.Prelude.{◌≡◌, ◌<◌, ◌^◌, neg_ℤ, ℕ, Some, None, List, [], ◌∷◌, ◌++◌, map}
+use Rattle.std.specs.Prelude.{◌≡◌, ◌<◌, ◌≤◌, ◌^◌, neg_ℤ, ℕ, Some, None, List, [], ◌∷◌, ◌++◌, map}
 use Rattle.std.specs.List.{AllByRecursion}
 use Rattle.tw_surface.specs.declared.cell.CellAttributes.{CellAttributes}
 use Rattle.tw_surface.specs.declared.change.Position.TheVariants.{Relative}
@@ -14,6 +14,7 @@ use Rattle.tw_lineedit.specs.ScreenRuns.{sized_scene}
 use Rattle.tw_lineedit.specs.Stations.{Station}
 use Rattle.laws_runs.specs.DrawnRuns.{ComesHealed}
 use Rattle.tw_ansi.specs.declared.encode.Encoder.{Encoder}
+use Rattle.tw_ansi.specs.Sequences.{most_rows}
 use Rattle.tw_ansi.specs.EcmaLaws.{IsColor}
 use Rattle.tw_ansi.specs.EcmaBatches.{IsReached}
 use Rattle.tw_ansi.specs.EcmaPaintings.{IsTypedScene}
@@ -55,7 +56,8 @@ module _ {V A C : Type 0} (rules : HostRules V) (pen : Pen A C) where
   pub record HealsResized (h w : ℕ) (f : Frame V) (earlier since : List (Station V)) (station : Station V) (later : List (Station V))
       (measured : List SizedScene) (last : SizedScene) (e : Encoder) (first t : EcmaScreen C) : Type 0 where
     pub comes : ComesHealed rules pen (Some h) f earlier since station later measured last
-    pub sent : AllByRecursion (IsSentAt h w) (map (sized_scene rules) (since ++ station ∷ []))
+    pub sent : AllByRecursion (IsSentAt w) (map (sized_scene rules) (since ++ station ∷ []))
+    pub high : h ≤ most_rows
     pub back : (m : Mark) → mark_after None (map shot_of (map (sized_scene rules) earlier)) ≡ Some m → IsReached h (Relative (neg_ℤ m.row))
     pub narrow : w < 2 ^ 64
     pub typed : AllByRecursion IsTypedStation (map (sized_scene rules) earlier)

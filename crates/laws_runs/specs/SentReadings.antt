@@ -95,10 +95,10 @@ module _ {V W : Type 0} (rules : HostRules V) (contents : W → Option (List ℕ
 
   -- It comes to a clearing: the stations since then, up to this one, are sent at w columns to a terminal of h rows.
   pub record IsSizedSince (prompt : List ℕ) (value : V) (old new : AnsiTerminal W) (events : List EventView) (held : List ℕ)
-      (h w : ℕ) (earlier since : List (Station V)) (station : Station V) (later : List (Station V)) : Type 0 where
+      (w : ℕ) (earlier since : List (Station V)) (station : Station V) (later : List (Station V)) : Type 0 where
     pub reading : IsSizedReading prompt value old new events held
     pub stations : stations_of rules (reading_frame prompt value old events) ≡ earlier ++ (since ++ station ∷ later)
-    pub sent : AllByRecursion (IsSentAt h w) (map (sized_scene rules) (since ++ station ∷ []))
+    pub sent : AllByRecursion (IsSentAt w) (map (sized_scene rules) (since ++ station ∷ []))
 
   -- what is sent up to the clearing, at whatever columns, and what batches are sent as from there on
   abbrev pub sent_before : AnsiTerminal W → List (Station V) → Sent
@@ -111,8 +111,8 @@ module _ {V W : Type 0} (rules : HostRules V) (contents : W → Option (List ℕ
   -- earlier ones, whatever columns these were sent at. Without earlier ones they are the first bytes.
   abbrev pub SinceIsSent : Type 0
   SinceIsSent = (prompt : List ℕ) (value : V) (old new : AnsiTerminal W) (events : List EventView) (held : List ℕ)
-      (h w : ℕ) (earlier since : List (Station V)) (station : Station V) (later : List (Station V))
-      → IsSizedSince prompt value old new events held h w earlier since station later
+      (w : ℕ) (earlier since : List (Station V)) (station : Station V) (later : List (Station V))
+      → IsSizedSince prompt value old new events held w earlier since station later
       → let sent = sent_from old w earlier (taken_since rules earlier since station) in
       (rest : List ℕ) × (contents new.writer ≡ Some (held ++ ((sent_before old earlier).bytes ++ (sent.bytes ++ rest))))
 
@@ -126,6 +126,6 @@ module _ {V W : Type 0} (rules : HostRules V) (contents : W → Option (List ℕ
   -- So it is where that station is the last one.
   abbrev pub SinceIsSentWhole : Type 0
   SinceIsSentWhole = (prompt : List ℕ) (value : V) (old new : AnsiTerminal W) (events : List EventView) (held : List ℕ)
-      (h w : ℕ) (earlier since : List (Station V)) (station : Station V)
-      → IsSizedSince prompt value old new events held h w earlier since station []
+      (w : ℕ) (earlier since : List (Station V)) (station : Station V)
+      → IsSizedSince prompt value old new events held w earlier since station []
       → EndsSince (reading_frame prompt value old events) old new held w earlier since station

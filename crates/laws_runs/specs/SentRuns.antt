@@ -1,5 +1,5 @@
 -- What a terminal shows that is sent the bytes of a run's batches.
-use Rattle.std.specs.Prelude.{◌≡◌, ◌<◌, ◌+◌, ◌^◌, neg_ℤ, ℕ, Some, None, false, List, [], ◌∷◌, ◌++◌, map}
+use Rattle.std.specs.Prelude.{◌≡◌, ◌<◌, ◌≤◌, ◌+◌, ◌^◌, neg_ℤ, ℕ, Some, None, false, List, [], ◌∷◌, ◌++◌, map}
 use Rattle.std.specs.List.{All, AllByRecursion}
 use Rattle.laws_screens.specs.Strokes.{PictureOf}
 use Rattle.laws_screens.specs.Sheets.{IsFreshSheet, sheet_last_row}
@@ -19,17 +19,18 @@ use Rattle.tw_lineedit.specs.Stations.{Station}
 use Rattle.laws_runs.specs.DrawnRuns.{play_stations, closed_by, since_batches, TakesAll, ComesMeasured, ComesHealed, ShowsDrawn}
 use Rattle.tw_ansi.specs.declared.encode.Encoder.{Encoder}
 use Rattle.tw_ansi.specs.Encoding.{Sent}
+use Rattle.tw_ansi.specs.Sequences.{most_rows}
 use Rattle.tw_ansi.specs.EcmaLaws.{IsColor}
 use Rattle.tw_ansi.specs.EcmaBatches.{CarriesAttributes, IsReached}
-use Rattle.tw_ansi.specs.EcmaPaintings.{IsShowable, sent_batches}
+use Rattle.tw_ansi.specs.EcmaPaintings.{IsTypedScene, sent_batches}
 use Rattle.tw_ansi.specs.EcmaScreen.{EcmaScreen, receive_all}
 use Rattle.tw_ansi.specs.EcmaScreen as terminal
 use Rattle.tw_ansi.specs.EcmaTexts.{ShowsPicture, JoinsMarks}
 
--- a station that is painted for w columns, and whose bytes do what its changes do on a terminal of h rows
-pub record IsSentAt (h w : ℕ) (station : SizedScene) : Type 0 where
+-- a station that is painted for w columns, of texts that are shown as they are measured
+pub record IsSentAt (w : ℕ) (station : SizedScene) : Type 0 where
   pub cols : station.cols ≡ w
-  pub showable : IsShowable h w station.scene
+  pub typed : IsTypedScene w station.scene
 
 module _ {V : Type 0} (rules : HostRules V) where
   -- the bytes of the batches of stations, by what is known of the terminal, and what is known then
@@ -61,7 +62,8 @@ module _ {V A C : Type 0} (rules : HostRules V) (pen : Pen A C) where
   pub record ComesSent (h w : ℕ) (f : Frame V) (earlier : List (Station V)) (station : Station V) (later : List (Station V))
       (measured : List SizedScene) (last : SizedScene) (e : Encoder) (t : EcmaScreen C) (before : PictureOf C) : Type 0 where
     pub comes : ComesMeasured rules pen (Some h) f earlier station later measured last before
-    pub sent : AllByRecursion (IsSentAt h w) (map (sized_scene rules) (earlier ++ station ∷ []))
+    pub sent : AllByRecursion (IsSentAt w) (map (sized_scene rules) (earlier ++ station ∷ []))
+    pub high : h ≤ most_rows
     pub narrow : w < 2 ^ 64
     pub color : IsColor e.attributes.background
     pub shows : ShowsPicture pen h w e t before
@@ -110,7 +112,8 @@ module _ {V A C : Type 0} (rules : HostRules V) (pen : Pen A C) where
   pub record HealsSent (h w : ℕ) (f : Frame V) (earlier since : List (Station V)) (station : Station V) (later : List (Station V))
       (measured : List SizedScene) (last : SizedScene) (e : Encoder) (t : EcmaScreen C) : Type 0 where
     pub comes : ComesHealed rules pen (Some h) f earlier since station later measured last
-    pub sent : AllByRecursion (IsSentAt h w) (map (sized_scene rules) (since ++ station ∷ []))
+    pub sent : AllByRecursion (IsSentAt w) (map (sized_scene rules) (since ++ station ∷ []))
+    pub high : h ≤ most_rows
     pub back : (m : Mark) → mark_after None (map shot_of (map (sized_scene rules) earlier)) ≡ Some m → IsReached h (Relative (neg_ℤ m.row))
     pub narrow : w < 2 ^ 64
     pub color : IsColor e.attributes.background

@@ -100,7 +100,7 @@ step_in (x ∷ xs) zs (y ∷ before) after step is =
       | inr later ↦ inr (later.0, (cc (is, later.1)), later.2)
     ]
 
--- an event that is told in a list that tells none
+-- an event in a list without events
 never_told : {P : Type 0} (steps before after : List Step) (event : EventView) → events_in steps ≡ [] → steps ≡ before ++ Told event ∷ after → P
 never_told steps before after event none is =
     let count : length (events_in steps) ≡ length (events_in before) + length (event ∷ events_in after) =
@@ -124,7 +124,7 @@ in_time_then due rest taken xs zs first later are before after event is =
 pub in_time_silent : (due : List EventView → List Batch) (taken : List Batch) (steps : List Step) → events_in steps ≡ [] → IsInTime due taken steps
 in_time_silent due taken steps none before after event is = never_told steps before after event none is
 
--- the first event, which is told where what is due at first is taken
+-- the first event, where what is due at first is taken
 pub in_time_first : (due : List EventView → List Batch) (taken : List Batch) (event : EventView) → taken ≡ due [] → IsInTime due taken (Told event ∷ [])
 in_time_first due taken event now [] after other is = append-nil taken ∙ now
 in_time_first due taken event now (step ∷ before) after other is =
@@ -182,7 +182,7 @@ asks_go due answer old new asks now = record {
     told_last (Ok None) = in_time_silent due (old.terminal.batches ++ batches_in asks.lead) (Ended ∷ []) refl
     told_last (Err fault) = in_time_silent due (old.terminal.batches ++ batches_in asks.lead) (Failed fault ∷ []) refl
 
--- ---- what is told and answered
+-- ---- events and answers
 
 -- an answer tells its event
 pub told_asked : (answer : Result (Option InputEvent) TerminalFault) (old new : Seen) → Asks answer old new → events_in new.log ≡ events_in old.log ++ answer_events answer
@@ -200,7 +200,7 @@ answered_last answer old new asks =
     last (Ok None) state = refl
     last (Err fault) state = refl
 
--- what is told by then
+-- the events up to then
 pub told_since : {due : List EventView → List Batch} (old new : Seen) (goes : GoesInTime due old new) → events_in new.log ≡ events_in old.log ++ events_in goes.steps
 told_since old new goes = ap events_in goes.log ∙ told_then old.log goes.steps
 
@@ -275,7 +275,7 @@ module _ {D : Type 0} (state : D → TerminalState) (log : D → List Step) (Law
     law = joins old mid new first.law later.law;
   }
 
-  -- calls alone
+  -- calls, and nothing else
   pub goes_called : (due : List EventView → List Batch) (old new : D) → IsCalledOn state log Law old new → Goes state log Law due old new
   goes_called due old new calls = record { in_time = calls_go due (at old) (at new) calls.notes; prompt = calls.notes.prompt; law = calls.law }
 

@@ -301,7 +301,7 @@ module _ {V : Type 0} (rules : HostRules V) (overrides : Overrides) where
 
   -- what the source told
 
-  -- nothing more is told
+  -- no more events
   pub comes_still : (old new : List EventView) (f g : Frame V) → g ≡ f → new ≡ old → ComesBy rules overrides old new f g
   comes_still old new f g same told = subst (λ (h : Frame V). ComesBy rules overrides old new f h) (sym same)
       ([], told ∙ sym (append-nil old), record { run = λ later. refl; stops = λ c later m can. can; quiet = record { flushed = refl; failures = refl }; left = refl })

@@ -116,7 +116,7 @@ pub record NotesCalls (old new : Seen) : Type 0 where
   pub batches : new.terminal.batches ≡ old.terminal.batches ++ batches_in steps
   pub prompt : IsPrompt old → IsPrompt new
 
--- the terminal once an answer is given: it has the size that is told
+-- the terminal once an answer is given: it has the size of a Resized
 abbrev pub terminal_after : Step → TerminalState → TerminalState
 terminal_after (Told event) terminal = record terminal { size = size_after event terminal.size }
 terminal_after _ terminal = terminal
@@ -130,7 +130,7 @@ pub record Asks (answer : Result (Option InputEvent) TerminalFault) (old new : S
   pub terminal : new.terminal ≡ terminal_after (answer_step answer) old.terminal
   pub prompt : IsPrompt old → IsPrompt new
 
--- Whenever an event is told, the batches that were taken before it are those that are due after the events before it.
+-- Before each event the batches that were taken are those that are due after the events before it.
 abbrev pub IsInTime : (List EventView → List Batch) → List Batch → List Step → Type 0
 IsInTime due taken steps = (before after : List Step) (event : EventView) → steps ≡ before ++ Told event ∷ after
     → taken ++ batches_in before ≡ due (events_in before)
@@ -152,7 +152,12 @@ module _ {D : Type 0} (state : D → TerminalState) (log : D → List Step) (Law
     pub notes : NotesCalls (seen_at state log old) (seen_at state log new)
     pub law : Law old new
 
-  -- Steps lead from the one to the other, in time and by the device's law.
+  -- Steps lead from the one to the other by the device's law, and nothing that was taken is unsent at a waiting.
+  pub record GoesOn (old new : D) : Type 0 where
+    pub prompt : IsPrompt (seen_at state log old) → IsPrompt (seen_at state log new)
+    pub law : Law old new
+
+  -- and so they do in time
   pub record Goes (due : List EventView → List Batch) (old new : D) : Type 0 where
     pub in_time : GoesInTime due (seen_at state log old) (seen_at state log new)
     pub prompt : IsPrompt (seen_at state log old) → IsPrompt (seen_at state log new)

@@ -24,8 +24,6 @@ use tw_terminal::{ScreenSize, Terminal, TerminalFault};
 pub struct Joined<S, T> {
     pub source: S,
     pub terminal: T,
-    /// True if paintings may be kept back whatever is at hand, since another one follows at once.
-    pub holds: bool,
     log: StepLog,
 }
 
@@ -68,7 +66,6 @@ impl<S: EventSource, T: DeviceTerminal> Joined<S, T> {
         Joined {
             source,
             terminal,
-            holds: false,
             log: StepLog::new(),
         }
     }
@@ -178,10 +175,10 @@ impl<S: EventSource, T: DeviceTerminal> Terminal for Joined<S, T> {
         self.terminal.poll_input()
     }
 
-    /// Takes the batch, which the terminal may keep back if an event is at hand or the device holds. Else it is sent, with
-    /// what was kept back.
+    /// Takes the batch, which the terminal may keep back if an event is at hand. Else it is sent, with what was kept
+    /// back.
     fn render(&mut self, changes: &[Change]) -> Result<(), TerminalFault> {
-        let may_keep = self.holds || self.source.has_at_hand();
+        let may_keep = self.source.has_at_hand();
         self.take(changes, may_keep)?;
         if !may_keep {
             self.note_sent();

@@ -183,9 +183,9 @@ fn read_events<D: Device, H: LineEditorHost>(
 /// the device told. The action `EndOfFile`, as Ctrl-D of the key table, is answered by `Answer::End` with an empty line,
 /// as is the last event with the line typed so far.
 ///
-/// Each event is told when all batches are taken that the run takes before it (`log`). At each waiting all that was
-/// taken is sent, and at the end, unless the closing of a refused line was refused too (`prompt`). What else the device
-/// did follows its own law (`law`).
+/// The device tells each event when it has taken all batches that the run takes before it (`log`). At each waiting all
+/// that was taken is sent, and at the end, unless the closing of a refused line was refused too (`prompt`). What else
+/// the device did follows its own law (`law`).
 ///
 /// If the device refuses to tell an event, the line is closed as at the last one, and the call fails with that refusal.
 /// It fails with `Device` if one call was told 2^64 - 1 events and none of them ended the line. Every other refusal is

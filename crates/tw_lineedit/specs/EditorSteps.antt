@@ -135,3 +135,7 @@ module _ {V : Type 0} where
   -- after a refusal the editor is closed, and the answer is that refusal, or else that of the closing
   abbrev pub GivesUp : Error → Frame V → Frame V → Error → Type 0
   GivesUp refusal f g e = ((e ≡ refusal) × Closes f g) ⊎ FailsToClose f g e
+
+  -- a part was refused so, and the editor is closed after it
+  abbrev pub IsClosedAfter : (Frame V → Frame V → Error → Type 0) → Frame V → Frame V → Error → Type 0
+  IsClosedAfter Fails f g e = (h : Frame V) × (refusal : Error) × Fails f h refusal × GivesUp refusal h g e

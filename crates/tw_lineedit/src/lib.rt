@@ -21,8 +21,8 @@
 //! ```
 //!
 //! `ScriptTerminal` of `tw_terminal` is a terminal to try it with, and `NopLineEditorHost` the plain host. At a
-//! real terminal, `read_typed_line` of `tw_device` does all of that from bytes, and `Prompt` of `tw_prompt` has the
-//! comforts.
+//! real terminal, `read_line_from` of `tw_device` does all of that, with events that it makes of bytes, and `Prompt` of
+//! `tw_prompt` has the comforts.
 //!
 //! # Keys
 //!

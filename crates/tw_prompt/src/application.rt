@@ -1,13 +1,12 @@
 //! Functions of an application, which a prompt asks between two events.
 
 ghost use Rattle.std.specs.Prelude.{◌≡◌};
-ghost use Rattle.tw_input.specs.EventView.{event_view};
-ghost use Rattle.tw_terminal.specs.TerminalState.{size_after};
-ghost use Rattle.tw_device.specs.Joined.{LeadsOn};
+ghost use Rattle.tw_lineedit.specs.Lent.{KeepsTerminal};
+ghost use Rattle.tw_device.specs.Steps.{GoesOn};
 
 use crate::line_ends::with_line_ends;
 use std::alloc::{AllocError, Global};
-use tw_device::{Answer, Device, DeviceTerminal, EventSource, Joined};
+use tw_device::{Answer, Device};
 use tw_input::{InputEvent, KeyCode, KeyEvent};
 use tw_key_parts::KeyPart;
 use tw_line::{History, LentLines};
@@ -96,81 +95,53 @@ fn prepare_candidates<A: Application, T: Terminal>(
 }
 
 /// Paints the line as it is prepared, below the application's news.
-fn show<A: Application, S: EventSource, T: DeviceTerminal, L: History + LentLines, K: KeyPart>(
+fn show<A: Application, T: Terminal, L: History + LentLines, K: KeyPart>(
     alloc: Global,
     application: &mut A,
-    editor: &mut LineEditor<'_, Joined<S, T>>,
-    host: &mut PromptHost<PreparedHost, L, K, PreparedLines>,
-) -> Result<LineStatus, Error>
-    ensures same_reference { editor.new.terminal.ghost_name ≡ editor.old.terminal.ghost_name }
-    ensures law { LeadsOn S.told S.follows T.state T.keeps T.does editor.old.terminal.now
-        editor.new.terminal.now }
+    editor: &mut LineEditor<'_, T>,
+    host: &PromptHost<PreparedHost, L, K, PreparedLines>,
+) -> Result<(), Error>
+    ensures terminal { KeepsTerminal T.follows editor.old.terminal editor.new.terminal }
 {
     let news = application.news(alloc)?;
     if news.is_empty() {
-        return editor.feed(host, &InputEvent::Wake);
+        return editor.paint_line(host);
     }
-    editor.print_above(host, with_line_ends(alloc, news.as_str(), "\r\n")?.as_str())
-}
-
-/// Feeds an event. Its painting may be kept back, since another one follows at once.
-fn feed_held<S: EventSource, T: DeviceTerminal, H: LineEditorHost>(
-    editor: &mut LineEditor<'_, Joined<S, T>>,
-    host: &mut H,
-    event: &InputEvent,
-) -> Result<LineStatus, Error>
-    requires { size_after (event_view event.now) (T.state editor.old.terminal.now.terminal).size
-        ≡ (T.state editor.old.terminal.now.terminal).size }
-    ensures same_reference { editor.new.terminal.ghost_name ≡ editor.old.terminal.ghost_name }
-    ensures law { LeadsOn S.told S.follows T.state T.keeps T.does editor.old.terminal.now
-        editor.new.terminal.now }
-{
-    editor.terminal().holds = true;
-    let fed = editor.feed(host, event);
-    editor.terminal().holds = false;
-    fed
+    editor.print_above(host, with_line_ends(alloc, news.as_str(), "\r\n")?.as_str())?;
+    Ok(())
 }
 
 /// Feeds an event, and paints the line in its colours.
-fn feed<A: Application, S: EventSource, T: DeviceTerminal, L: History + LentLines, K: KeyPart>(
+fn feed<A: Application, T: Terminal, L: History + LentLines, K: KeyPart>(
     alloc: Global,
     application: &mut A,
-    editor: &mut LineEditor<'_, Joined<S, T>>,
+    editor: &mut LineEditor<'_, T>,
     host: &mut PromptHost<PreparedHost, L, K, PreparedLines>,
     event: &InputEvent,
 ) -> Result<LineStatus, Error>
-    requires { size_after (event_view event.now) (T.state editor.old.terminal.now.terminal).size
-        ≡ (T.state editor.old.terminal.now.terminal).size }
-    ensures same_reference { editor.new.terminal.ghost_name ≡ editor.old.terminal.ghost_name }
-    ensures law { LeadsOn S.told S.follows T.state T.keeps T.does editor.old.terminal.now
-        editor.new.terminal.now }
+    ensures terminal { KeepsTerminal T.follows editor.old.terminal editor.new.terminal }
 {
     prepare_candidates(alloc, application, editor, &mut host.host, event)?;
-    match feed_held(editor, host, event)? {
-        LineStatus::Ended => Ok(LineStatus::Ended),
+    let status = editor.handle_event(host, event)?;
+    match status {
+        LineStatus::Ended => editor.paint_line(host)?,
         LineStatus::Open => {
             prepare_line(alloc, application, editor, host)?;
-            show(alloc, application, editor, host)
+            show(alloc, application, editor, host)?;
         }
     }
+    Ok(status)
 }
 
 /// Feeds the events of a device to an open line, up to the end of either. Returns true if there are no more events.
-fn take_events<
-    A: Application,
-    S: EventSource,
-    T: DeviceTerminal,
-    L: History + LentLines,
-    K: KeyPart,
->(
+fn take_events<A: Application, D: Device, L: History + LentLines, K: KeyPart>(
     alloc: Global,
     application: &mut A,
-    editor: &mut LineEditor<'_, Joined<S, T>>,
+    editor: &mut LineEditor<'_, D>,
     host: &mut PromptHost<PreparedHost, L, K, PreparedLines>,
 ) -> Result<bool, Error>
     ensures same_reference { editor.new.terminal.ghost_name ≡ editor.old.terminal.ghost_name }
-    ensures law { LeadsOn S.told S.follows T.state T.keeps T.does editor.old.terminal.now
-        editor.new.terminal.now }
+    ensures goes { GoesOn D.state D.log D.law editor.old.terminal.now editor.new.terminal.now }
 {
     prepare_line(alloc, application, editor, host)?;
     for _ in 0..u64::MAX {
@@ -203,21 +174,14 @@ fn answer_of(
 }
 
 /// Reads a line with this editor.
-fn read_events<
-    A: Application,
-    S: EventSource,
-    T: DeviceTerminal,
-    L: History + LentLines,
-    K: KeyPart,
->(
+fn read_events<A: Application, D: Device, L: History + LentLines, K: KeyPart>(
     alloc: Global,
     application: &mut A,
-    editor: &mut LineEditor<'_, Joined<S, T>>,
+    editor: &mut LineEditor<'_, D>,
     host: &mut PromptHost<PreparedHost, L, K, PreparedLines>,
 ) -> Result<Answer, Error>
     ensures same_reference { editor.new.terminal.ghost_name ≡ editor.old.terminal.ghost_name }
-    ensures law { LeadsOn S.told S.follows T.state T.keeps T.does editor.old.terminal.now
-        editor.new.terminal.now }
+    ensures goes { GoesOn D.state D.log D.law editor.old.terminal.now editor.new.terminal.now }
 {
     editor.begin_line(host, None)?;
     let taken = take_events(alloc, application, editor, host);
@@ -226,24 +190,17 @@ fn read_events<
 }
 
 /// Reads a line with a new editor, as `read_line_from` of `tw_device` does, and asks the application between two
-/// events: for what completes the line before a Tab, and after each event for the colours of the line, whether it may
-/// be accepted, and for news to print above it. The line is painted twice then: give it a `PatientTerminal`, which sends
-/// only the second painting. If a function, the terminal or memory refuses, the line is closed on the screen, and what
-/// was typed of it is lost.
-pub fn read_with<
-    A: Application,
-    S: EventSource,
-    T: DeviceTerminal,
-    L: History + LentLines,
-    K: KeyPart,
->(
+/// events: for what completes the line before a Tab, and after each event, before the line is painted, for the colours
+/// of the line, whether it may be accepted, and for news to print above it. If a function, the terminal or memory
+/// refuses, the line is closed on the screen, and what was typed of it is lost.
+pub fn read_with<A: Application, D: Device, L: History + LentLines, K: KeyPart>(
     alloc: Global,
     application: &mut A,
-    device: &mut Joined<S, T>,
+    device: &mut D,
     host: &mut PromptHost<PreparedHost, L, K, PreparedLines>,
     prompt: &str,
 ) -> Result<Answer, Error>
-    ensures law { LeadsOn S.told S.follows T.state T.keeps T.does device.old device.new }
+    ensures goes { GoesOn D.state D.log D.law device.old device.new }
 {
     let mut editor = LineEditor::new(alloc, device)?;
     editor.set_prompt(prompt)?;

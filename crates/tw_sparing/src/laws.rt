@@ -21,7 +21,7 @@ pub fn changed()
 {}
 
 /// Where nothing differs nothing is sent, and of printable characters that were typed at the cursor, under the
-/// attributes that are selected, these alone: in its row, or through the rows where the screen ends with them.
+/// attributes that are selected, and no others: in its row, or through the rows where the screen ends with them.
 pub fn short_differences()
     ensures nothing { NothingIsSentForNothing }
     ensures typed { TypedIsSentAlone }

@@ -62,9 +62,8 @@ impl<W: Write> PatientTerminal<W> {
         }
     }
 
-    /// Says whether more events are at hand than the one that is handled next. Nothing is written, and nothing else
-    /// changes. Where no more is at hand the next batch is sent, and what is kept back with it: so an owner says it
-    /// before the last event.
+    /// Says whether another painting follows at once. As long as one does, batches are kept back; if none does, the next
+    /// batch is sent, with what is kept back. Nothing is written, and nothing else changes.
     pub fn set_more_at_hand(&mut self, is_more: bool)
         ensures more { self.new ≡ record self.old { is_more = is_more } }
         ensures called { DoesPatiently W.contents self.old self.new (Called Other) }

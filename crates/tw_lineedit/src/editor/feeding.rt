@@ -10,6 +10,7 @@ ghost use Rattle.tw_terminal.specs.TerminalState.{size_after};
 ghost use Rattle.tw_session.specs.EditState.{Inactive};
 ghost use Rattle.tw_session.specs.Outcomes.{outcome_of, is_open};
 ghost use Rattle.tw_lineedit.specs.Feeding.{status_if, Begins, FailsToBegin, IsFed, FailsToFeed, FailsToFinish};
+ghost use Rattle.tw_lineedit.specs.EditorSteps.{FailsToHandle, FailsToPaint, Handles, IsClosedAfter, Paints};
 ghost use Rattle.tw_lineedit.specs.Reading.{initial_text, FailuresTell};
 
 use crate::editor::LineEditor;
@@ -100,6 +101,53 @@ impl<'term, T: Terminal> LineEditor<'term, T> {
             self.take(host, event)?;
         }
         Ok(self.status())
+    }
+
+    /// Handles an event as `feed` does, and does not paint. What the host shows can be prepared then, before
+    /// `paint_line`. If no line takes events, nothing is done, and `Ended` is returned. A refusal closes the line as one
+    /// of `feed` does.
+    pub fn handle_event<H: LineEditorHost>(
+        &mut self,
+        host: &mut H,
+        event: &InputEvent,
+    ) -> Result<LineStatus, Error>
+        ensures terminal { KeepsTerminal T.follows self.old.terminal self.new.terminal }
+        ensures ended { is_open self.old.session.state.mode ≡ false
+            → (result ≡ Ok LineStatus.Ended) × (self.new.terminal.now ≡ self.old.terminal.now)
+            × (host.new ≡ host.old)
+            × across T.state H.value IsSame self.old host.old self.new host.new }
+        ensures ok { is_open self.old.session.state.mode ≡ true
+            → OnOk result (across T.state H.value (Handles H.rules (event_view event.now))
+            self.old host.old self.new host.new) }
+        ensures status { IfOk result (λ status. status
+            ≡ status_if (is_open self.new.session.state.mode)) }
+        ensures err { IfErr result (across T.state H.value
+            (IsClosedAfter (FailsToHandle H.rules H.OVERRIDES (event_view event.now)))
+            self.old host.old self.new host.new) }
+    {
+        if self.session.is_open() {
+            self.handle_or_close(host, event)?;
+        }
+        Ok(self.status())
+    }
+
+    /// Paints a begun line over its painting before, as `feed` does once the event is handled. If no line was begun,
+    /// nothing is done. A refusal closes the line as one of `feed` does.
+    pub fn paint_line<H: LineEditorHost>(&mut self, host: &H) -> Result<(), Error>
+        ensures terminal { KeepsTerminal T.follows self.old.terminal self.new.terminal }
+        ensures inactive { self.old.session.state.mode ≡ Inactive → (result ≡ Ok tt)
+            × (self.new.terminal.now ≡ self.old.terminal.now)
+            × across T.state H.value IsSame self.old host.now self.new host.now }
+        ensures ok { self.old.session.state.mode ≢ Inactive
+            → OnOk result (across T.state H.value (Paints H.rules)
+            self.old host.now self.new host.now) }
+        ensures err { IfErr result (across T.state H.value (IsClosedAfter (FailsToPaint H.rules))
+            self.old host.now self.new host.now) }
+    {
+        if self.session.is_inactive() {
+            return Ok(());
+        }
+        self.paint_or_close(host)
     }
 
     /// Ends a line that was fed its events. Returns the line, as it stands if it takes more events, and `None` if it
@@ -194,6 +242,39 @@ impl<'term, T: Terminal> LineEditor<'term, T> {
             self.old host.old self.new host.new) }
     {
         match self.advance(host, event) {
+            Ok(()) => Ok(()),
+            Err(refusal) => Err(self.give_up(refusal)),
+        }
+    }
+
+    /// Handles an event, and closes where that is refused.
+    fn handle_or_close<H: LineEditorHost>(
+        &mut self,
+        host: &mut H,
+        event: &InputEvent,
+    ) -> Result<(), Error>
+        ensures terminal { KeepsTerminal T.follows self.old.terminal self.new.terminal }
+        ensures ok { OnOk result (across T.state H.value (Handles H.rules (event_view event.now))
+            self.old host.old self.new host.new) }
+        ensures err { IfErr result (across T.state H.value
+            (IsClosedAfter (FailsToHandle H.rules H.OVERRIDES (event_view event.now)))
+            self.old host.old self.new host.new) }
+    {
+        match self.handle(host, event) {
+            Ok(()) => Ok(()),
+            Err(refusal) => Err(self.give_up(refusal)),
+        }
+    }
+
+    /// Paints, and closes where that is refused.
+    fn paint_or_close<H: LineEditorHost>(&mut self, host: &H) -> Result<(), Error>
+        ensures terminal { KeepsTerminal T.follows self.old.terminal self.new.terminal }
+        ensures ok { OnOk result (across T.state H.value (Paints H.rules)
+            self.old host.now self.new host.now) }
+        ensures err { IfErr result (across T.state H.value (IsClosedAfter (FailsToPaint H.rules))
+            self.old host.now self.new host.now) }
+    {
+        match self.paint(host) {
             Ok(()) => Ok(()),
             Err(refusal) => Err(self.give_up(refusal)),
         }
