@@ -41,7 +41,7 @@ module _ {V : Type 0} (rules : HostRules V) where
 
   -- two calls
   pub calls_stack : CallsStack rules
-  calls_stack f g w earlier station none others second later before h nothing k clear =
+  calls_stack f g w earlier station none before h nothing others second later k clear =
       let closed = closes_below rules f w earlier station none before h nothing in
       let fresh = later_is_fresh g w others second later _ k clear in
       let under : (play_batches w (closing_if (run_of rules f).mark) (play_batches w (batches_of rules (earlier ++ station ∷ [])) before)).row

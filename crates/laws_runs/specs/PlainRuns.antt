@@ -30,15 +30,19 @@ module _ {V : Type 0} (rules : HostRules V) where
       ShowsFresh rules f (run_of rules f).taken w s earlier station entered
       × IsSameAbove w s shown (painted_screen w (earlier ++ station ∷ []) entered)
 
-  -- Two calls stack: a second run that clears nothing and enters the screen where the closing batch of a first one left
-  -- it is fresh under that one's last painting, of which nothing is changed.
+  -- A run that clears nothing stands so, whatever station it comes to.
+  abbrev pub RunStandsUnder : Frame V → ℕ → ℕ → Picture → Picture → Type 0
+  RunStandsUnder f w s entered shown = (earlier : List (Station V)) (station : Station V) (later : List (Station V))
+      → ReachesPlainly rules f w earlier station later entered → is_cleared rules (earlier ++ station ∷ []) ≡ false
+      → StandsUnder f w s earlier station entered shown
+
+  -- Two calls stack: a second run that enters the screen where the closing batch of a first one left it stands under that
+  -- one's last painting, of which nothing is changed.
   abbrev pub CallsStack : Type 0
-  CallsStack = (f g : Frame V) (w : ℕ) (earlier : List (Station V)) (station : Station V) (none others : List (Station V)) (second : Station V) (later : List (Station V)) (before : Picture)
+  CallsStack = (f g : Frame V) (w : ℕ) (earlier : List (Station V)) (station : Station V) (none : List (Station V)) (before : Picture)
       → ReachesPlainly rules f w earlier station none before → All (RendersNothing rules) none
       → let first = earlier ++ station ∷ [] in
-      let entered = closed_screen f w first before in
-      ReachesPlainly rules g w others second later entered → is_cleared rules (others ++ second ∷ []) ≡ false
-      → StandsUnder g w (row_under w earlier station before) others second entered (painted_screen w first before)
+      RunStandsUnder g w (row_under w earlier station before) (closed_screen f w first before) (painted_screen w first before)
 
   -- ---- for the run from any frame: what `read_line` says of its own
 

@@ -2,7 +2,7 @@
 
 use crate::tables::words;
 use std::alloc::{AllocError, Global};
-use tw_completion_parts::{Completer, Context, ContextCompleter, WordList};
+use tw_hosts::{Completer, Context, ContextCompleter, WordList};
 
 /// What `count` counts.
 const COUNTED: &str = "bytes lines words";

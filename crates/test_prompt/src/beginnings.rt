@@ -5,7 +5,7 @@ use crate::prompt::read_all;
 use std::alloc::Global;
 use std::test::Fail;
 use test_cases::{expect_rows, parted};
-use tw_completion_parts::common_beginning;
+use tw_hosts::common_beginning;
 
 /// Returns the common beginning for `shared WORDS` and `none`, and else the line that a script reads.
 fn completed(alloc: Global, command: &str) -> Result<String, Fail> {

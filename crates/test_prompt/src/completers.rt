@@ -5,9 +5,7 @@ use crate::prompt::{Prompt, new_prompt};
 use std::alloc::Global;
 use std::test::Fail;
 use test_cases::{expect_rows, parted};
-use tw_completion_parts::{
-    Completer, Context, ContextCompleter, DirectoryEntry, Listing, WordList,
-};
+use tw_hosts::{Completer, Context, ContextCompleter, DirectoryEntry, Listing, WordList};
 use tw_lineedit::LineEditorHost;
 
 /// Parses a completer: `files`, `nothing`, `words WORDS`, or `names WORDS`, in either case and with more delimiters.

@@ -12,7 +12,7 @@ use Rattle.tw_terminal.specs.declared.terminal.TerminalFault.{TerminalFault}
 use Rattle.tw_device.specs.declared.keys.SourceState.{SourceState}
 use Rattle.tw_device.specs.declared.keys.SourceState.TheVariants.{Going}
 use Rattle.tw_device.specs.JoinedLaws.{told_then}
-use Rattle.tw_device.specs.Steps.{Step, Took, Refused, Sent, Flushed, Waited, Told, Ended, Failed, Seen, NotesCalls, Asks, IsInTime, GoesInTime, IsCalledOn, Goes, answer_step, batches_in, is_call, is_lead, seen_at, source_after, state_from, state_in, events_in}
+use Rattle.tw_device.specs.Steps.{Step, Took, Refused, Sent, Flushed, Waited, Told, Ended, Failed, Seen, NotesCalls, Asks, IsInTime, GoesInTime, IsCalledOn, Goes, GoesPromptly, answer_step, batches_in, is_call, is_lead, seen_at, source_after, state_from, state_in, events_in}
 use Rattle.tw_device.specs.Told.{answer_events}
 use Rattle.tw_device.proofs.JoinedLemmas.{batches_after, told_by}
 
@@ -233,25 +233,6 @@ notes_then old mid new first next = record {
     both_calls [] b first next = next
     both_calls (step ∷ a) b first next = let both = and_parts (is_call step) (list_all is_call a) first in and_from (is_call step) (list_all is_call (a ++ b)) both.0 (both_calls a b both.1 next)
 
-module _ {D : Type 0} (state : D → TerminalState) (log : D → List Step) (Law : D → D → Type 0) (Follows : D → D → Call → Type 0)
-    (call_notes : (old new : D) (call : Call) → Follows old new call → NotesCalls (seen_at state log old) (seen_at state log new))
-    (call_law : (old new : D) (call : Call) → Follows old new call → Law old new)
-    (stays : (it : D) → Law it it) (joins : (old mid new : D) → Law old mid → Law mid new → Law old new) where
-  called_by : (calls : List Call) (old new : D) → Uses Follows calls old new → IsCalledOn state log Law old new
-  called_by [] old new same = subst (λ it. IsCalledOn state log Law old it) (sym same) (record {
-    notes = record { steps = []; calls = refl; log = sym (append-nil (log old)); batches = sym (append-nil (state old).batches); prompt = λ was. was };
-    law = stays old;
-  })
-  called_by (call ∷ calls) old new (mid, first, uses) =
-      let later = called_by calls mid new uses in
-      record {
-        notes = notes_then (seen_at state log old) (seen_at state log mid) (seen_at state log new) (call_notes old mid call first) later.notes;
-        law = joins old mid new (call_law old mid call first) later.law;
-      }
-
-  pub called_on : (old new : D) → IsUsed Follows old new → IsCalledOn state log Law old new
-  called_on old new (calls, uses) = called_by calls old new uses
-
 module _ {D : Type 0} (state : D → TerminalState) (log : D → List Step) (Law : D → D → Type 0) (joins : (old mid new : D) → Law old mid → Law mid new → Law old new) where
   abbrev at : D → Seen
   at it = seen_at state log it
@@ -300,3 +281,40 @@ module _ {D : Type 0} (state : D → TerminalState) (log : D → List Step) (Law
       → Law old mid → IsCalledOn state log Law mid new → (state old).batches ≡ due [] → Goes state log Law due old new
   goes_fed due answer old mid new asks law calls now =
       goes_closed due old mid new (record { in_time = asks_go due answer (at old) (at mid) asks now; prompt = asks.prompt; law = law }) calls
+
+module _ {D : Type 0} (state : D → TerminalState) (log : D → List Step) (Law : D → D → Type 0) (Follows : D → D → Call → Type 0)
+    (call_notes : (old new : D) (call : Call) → Follows old new call → NotesCalls (seen_at state log old) (seen_at state log new))
+    (call_law : (old new : D) (call : Call) → Follows old new call → Law old new)
+    (stays : (it : D) → Law it it) (joins : (old mid new : D) → Law old mid → Law mid new → Law old new) where
+  called_by : (calls : List Call) (old new : D) → Uses Follows calls old new → IsCalledOn state log Law old new
+  called_by [] old new same = subst (λ it. IsCalledOn state log Law old it) (sym same) (record {
+    notes = record { steps = []; calls = refl; log = sym (append-nil (log old)); batches = sym (append-nil (state old).batches); prompt = λ was. was };
+    law = stays old;
+  })
+  called_by (call ∷ calls) old new (mid, first, uses) =
+      let later = called_by calls mid new uses in
+      record {
+        notes = notes_then (seen_at state log old) (seen_at state log mid) (seen_at state log new) (call_notes old mid call first) later.notes;
+        law = joins old mid new (call_law old mid call first) later.law;
+      }
+
+  pub called_on : (old new : D) → IsUsed Follows old new → IsCalledOn state log Law old new
+  called_on old new (calls, uses) = called_by calls old new uses
+
+  -- an event, and then calls
+  pub told_feeding : (answer : Result (Option InputEvent) TerminalFault) (old mid new : D) → Asks answer (seen_at state log old) (seen_at state log mid) → IsUsed Follows mid new
+      → events_in (log new) ≡ events_in (log old) ++ answer_events answer
+  told_feeding answer old mid new asks used = told_fed answer (seen_at state log old) (seen_at state log mid) (seen_at state log new) asks (called_on mid new used).notes
+
+  pub goes_feeding : (due : List EventView → List Batch) (answer : Result (Option InputEvent) TerminalFault) (old mid new : D) → Asks answer (seen_at state log old) (seen_at state log mid)
+      → Law old mid → IsUsed Follows mid new → (state old).batches ≡ due [] → Goes state log Law due old new
+  goes_feeding due answer old mid new asks law used now = goes_fed state log Law joins due answer old mid new asks law (called_on mid new used) now
+
+  -- the same where nothing is due
+  pub goes_by_calls : (old new : D) → IsUsed Follows old new → GoesPromptly state log Law old new
+  goes_by_calls old new used = let calls = called_on old new used in record { prompt = calls.notes.prompt; law = calls.law }
+
+  pub goes_by_feeding : (answer : Result (Option InputEvent) TerminalFault) (old mid new : D) → Asks answer (seen_at state log old) (seen_at state log mid)
+      → Law old mid → IsUsed Follows mid new → GoesPromptly state log Law old new
+  goes_by_feeding answer old mid new asks law used =
+      let calls = called_on mid new used in record { prompt = λ was. calls.notes.prompt (asks.prompt was); law = joins old mid new law calls.law }

@@ -1,5 +1,7 @@
 pub mod CallLemmas
 pub mod DeedLemmas
+pub mod GoingLemmas
+pub mod HookedLemmas
 pub mod InTimeLemmas
 pub mod JoinedLemmas
 pub mod LiveLemmas

@@ -52,6 +52,10 @@ stops_by (source_fault why) is_open old new told stops = stops
 stops_by Endless is_open old new told stops = absurd stops
 
 module _ {V : Type 0} where
+  -- the frames of equal parts
+  pub frame_as : (s r : SessionView) (v : V) (t u : TerminalState) → r ≡ s → u ≡ t → frame_of r v u ≡ frame_of s v t
+  frame_as s r v t u same left = ap (λ it. frame_of it v u) same ∙ ap (λ it. frame_of s v it) left
+
   -- a progress of this size
   abbrev with_size : Progress V → ScreenSize → Progress V
   with_size s z = record s { size = z }
@@ -294,10 +298,6 @@ module _ {V : Type 0} (rules : HostRules V) (overrides : Overrides) where
   pub unopened_at : (f s h g : Frame V) (x : Error) → f.terminal.events ≡ [] → s ≡ start None f → g ≡ h → FailsToBegin rules None f h x → FailsOver rules overrides [] s g x
   unopened_at f s h g x none sf gh r = subst (λ (y : Frame V). FailsOver rules overrides [] y g x) (sym sf)
       (subst (λ (y : Frame V). FailsOver rules overrides [] (start None f) y x) (sym gh) (unopened f h x none r))
-
-  -- an editor whose terminal has the size that an event tells
-  pub resized_is : (e : EventView) (f : Frame V) (t u : TerminalState) → (let r : TerminalState = record u { size = size_after e u.size } in t ≡ r) → u ≡ f.terminal → (let r : Frame V = record f { terminal = t } in r ≡ resized_frame e f)
-  resized_is e f t u tu uf = ap (λ (y : TerminalState). let r : Frame V = record f { terminal = y } in r) (tu ∙ ap (λ (y : TerminalState). let r : TerminalState = record y { size = size_after e y.size } in r) uf)
 
   -- what the source told
 

@@ -1,5 +1,6 @@
 pub mod Calls
 pub mod Deeds
+pub mod Hooked
 pub mod Joined
 pub mod JoinedLaws
 pub mod Keys

@@ -153,7 +153,7 @@ module _ {D : Type 0} (state : D → TerminalState) (log : D → List Step) (Law
     pub law : Law old new
 
   -- Steps lead from the one to the other by the device's law, and nothing that was taken is unsent at a waiting.
-  pub record GoesOn (old new : D) : Type 0 where
+  pub record GoesPromptly (old new : D) : Type 0 where
     pub prompt : IsPrompt (seen_at state log old) → IsPrompt (seen_at state log new)
     pub law : Law old new
 

@@ -6,13 +6,11 @@
 //! From `crates/test_prompt/src/devices/at_once.rt`:
 //!
 //! ```
-//! let mut host = NopLineEditorHost::new(alloc);
-//! let keys = KeyReader::new(alloc, typed.as_bytes());
-//! let size = ScreenSize { rows: 24, cols: 80 };
+//! let mut device = Joined::new(KeyReader::new(alloc, typed.as_bytes()), terminal);
+//! read_line_from(alloc, &mut device, host, "> ")
 //! ..
 //!     let terminal = PatientTerminal::new(alloc, &mut taken, size);
-//!     let mut device = Joined::new(keys, terminal);
-//!     read_line_from(alloc, &mut device, &mut host, "> ")?
+//!     read_typed(alloc, terminal, typed, &mut host)?
 //! ```
 #![tactic(auto)]
 
@@ -21,6 +19,8 @@ mod device;
 mod device_terminal;
 mod escape;
 mod event_log;
+mod hook;
+mod hooked;
 mod joined;
 mod keys;
 pub mod laws;
@@ -35,6 +35,8 @@ pub use device::Device;
 pub use device_terminal::DeviceTerminal;
 pub use escape::Escape;
 pub use event_log::EventLog;
+pub use hook::Hook;
+pub use hooked::read_line_with;
 pub use joined::Joined;
 pub use keys::{EventSource, KeyReader, SourceState};
 pub use pasted::Pasted;

@@ -8,10 +8,11 @@ ghost use Rattle.tw_lineedit.specs.Outcomes.{answer_at, is_open, outcome_of};
 ghost use Rattle.tw_lineedit.specs.Reading.{start, Reads};
 ghost use Rattle.tw_lineedit.specs.Run.{ending};
 ghost use Rattle.tw_device.specs.Live.{taken_on, taken_over, fresh_frame, ComesBy, FailsBy, IsToldAnswer, IsRefusedTold, IsRead, FailsToReadTold, StopsOn, StopsFeeding, answer_from};
-ghost use Rattle.tw_device.specs.Steps.{seen_at, state_in, events_in, Goes, GoesInTime, IsCalledOn, IsPrompt};
+ghost use Rattle.tw_device.specs.Steps.{seen_at, state_in, events_in, Asks, Goes, GoesInTime, IsCalledOn, IsPrompt};
 
 use crate::device::Device;
 use std::alloc::Global;
+use tw_input::InputEvent;
 use tw_lineedit::{Error, LineEditor, LineEditorHost, LineStatus};
 use tw_terminal::TerminalFault;
 
@@ -41,7 +42,7 @@ enum Stop {
 }
 
 /// Begins a line.
-fn begin<D: Device, H: LineEditorHost>(
+pub(crate) fn begin<D: Device, H: LineEditorHost>(
     editor: &mut LineEditor<'_, D>,
     host: &H,
 ) -> Result<(), Error>
@@ -59,6 +60,19 @@ fn begin<D: Device, H: LineEditorHost>(
         → IfErr result (FailsToBegin H.rules None before after) }
 {
     editor.begin_line(host, None)
+}
+
+/// Asks the device for the next event.
+pub(crate) fn ask<D: Device>(
+    editor: &mut LineEditor<'_, D>,
+) -> Result<Option<InputEvent>, TerminalFault>
+    ensures same_reference { editor.new.terminal.ghost_name ≡ editor.old.terminal.ghost_name }
+    ensures session { editor.new.session ≡ editor.old.session }
+    ensures asks { Asks result (seen_at D.state D.log editor.old.terminal.now)
+        (seen_at D.state D.log editor.new.terminal.now) }
+    ensures law { D.law editor.old.terminal.now editor.new.terminal.now }
+{
+    editor.terminal().next_event()
 }
 
 /// Feeds an open line the next event. Returns why no more are fed, if so.
@@ -83,7 +97,7 @@ fn take_event<D: Device, H: LineEditorHost>(
         Goes D.state D.log D.law (taken_on H.rules before)
         editor.old.terminal.now editor.new.terminal.now }
 {
-    match editor.terminal().next_event() {
+    match ask(editor) {
         Ok(Some(event)) => match editor.feed(host, &event)? {
             LineStatus::Open => Ok(None),
             LineStatus::Ended => Ok(Some(Stop::Ended)),
@@ -126,7 +140,7 @@ fn take_events<D: Device, H: LineEditorHost>(
 }
 
 /// Ends a line.
-fn finish<D: Device>(editor: &mut LineEditor<'_, D>) -> Result<Option<String>, Error>
+pub(crate) fn finish<D: Device>(editor: &mut LineEditor<'_, D>) -> Result<Option<String>, Error>
     ensures same_reference { editor.new.terminal.ghost_name ≡ editor.old.terminal.ghost_name }
     ensures calls { IsCalledOn D.state D.log D.law editor.old.terminal.now editor.new.terminal.now }
     ensures ok { let before = own_frame D.state editor.old in

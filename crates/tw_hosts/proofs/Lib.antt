@@ -1,3 +1,4 @@
 pub mod WordLemmas
 pub mod TokenLemmas
 pub mod SettlingLemmas
+pub mod BeginningLemmas

@@ -4,3 +4,7 @@ pub mod Bindings
 pub mod Hints
 pub mod TableRules
 pub mod Settling
+pub mod SharedCandidate
+pub mod WordLists
+pub mod FileNames
+pub mod Completers

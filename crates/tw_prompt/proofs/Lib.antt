@@ -1,3 +1,2 @@
 pub mod JoinedLemmas
-pub mod LedLemmas
 pub mod PlaceLemmas

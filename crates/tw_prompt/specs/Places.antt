@@ -4,6 +4,7 @@ use Rattle.tw_line.specs.NearestMatch.{last_line}
 use Rattle.tw_terminal.specs.TerminalState.{TerminalState}
 use Rattle.tw_lineedit.specs.HostRules.{HostRules}
 use Rattle.tw_lineedit.specs.declared.Overrides.{Overrides}
+use Rattle.tw_device.specs.Hooked.{IsReadHooked}
 use Rattle.tw_device.specs.Joined.{seen_of}
 use Rattle.tw_device.specs.Live.{IsToldAnswer, fresh_frame}
 use Rattle.tw_device.specs.Steps.{IsPrompt, Seen, events_in, state_in}
@@ -44,20 +45,26 @@ pub record Begun (V : Type 0) : Type 0 where
 abbrev pub line_begun : {V : Type 0} → HostRules V → Overrides → List ℕ → V → Begun V
 line_begun rules overrides prompt value = record { rules = rules; overrides = overrides; prompt = prompt; value = value }
 
-module _ {V : Type 0} (line : Begun V) where
-  -- A line was read from a device: the answer, what is seen of it and the host's value are those of a run over exactly the
-  -- events that were told.
-  abbrev pub IsReadFrom : Seen → Seen → V → Answer → Type 0
-  IsReadFrom old new left answer = IsToldAnswer line.rules line.overrides (events_in old.log) (events_in new.log) (state_in new.log)
-      (fresh_frame line.prompt line.value old.terminal) left new.terminal answer
+-- A line was read from a device: the answer, what is seen of it and the host's value are those of a run over exactly the
+-- events that were told.
+abbrev pub IsReadFrom : {V : Type 0} → Begun V → Seen → Seen → V → Answer → Type 0
+IsReadFrom line old new left answer = IsToldAnswer line.rules line.overrides (events_in old.log) (events_in new.log) (state_in new.log)
+    (fresh_frame line.prompt line.value old.terminal) left new.terminal answer
 
-  -- the same of a prompt, of which nothing is said at a pipe
-  abbrev pub IsReadIn : Option Seen → Option Seen → V → Answer → Type 0
-  IsReadIn (Some old) (Some new) left answer = IsReadFrom old new left answer
-  IsReadIn _ _ left answer = ⊤
+-- A line was read from a device with what an application prepared; and then it prepared what is left.
+abbrev pub IsAskedFrom : {V : Type 0} → (V → V → Type 0) → Begun V → Seen → Seen → V → Answer → Type 0
+IsAskedFrom {V} Prepares line old new left answer = (value : V)
+    × IsReadHooked line.rules line.overrides Prepares old new (fresh_frame line.prompt line.value old.terminal) value answer
+    × Prepares value left
 
-  -- A line was read, and then it was remembered.
-  pub record IsReadAndKept (remembers : Bool) (old new : Option Seen) (after : V) (answer : Answer) : Type 0 where
-    pub left : V
-    pub read : IsReadIn old new left answer
-    pub kept : IsRemembered line.rules.lines remembers (accepted_in answer) left after
+-- the same of a prompt, of which nothing is said at a pipe
+abbrev pub IsReadIn : {V : Type 0} → (Seen → Seen → V → Answer → Type 0) → Option Seen → Option Seen → V → Answer → Type 0
+IsReadIn Reads (Some old) (Some new) left answer = Reads old new left answer
+IsReadIn Reads _ _ left answer = ⊤
+
+-- A line was read so, and then it was remembered.
+pub record IsReadAndKept {V : Type 0} (Reads : Begun V → Seen → Seen → V → Answer → Type 0) (line : Begun V) (remembers : Bool)
+    (old new : Option Seen) (after : V) (answer : Answer) : Type 0 where
+  pub left : V
+  pub read : IsReadIn (Reads line) old new left answer
+  pub kept : IsRemembered line.rules.lines remembers (accepted_in answer) left after

@@ -4,7 +4,7 @@ ghost use Rattle.std.specs.Prelude.{◌≡◌, IfOk, string_bytes};
 
 use std::alloc::{AllocError, Global};
 use std::fs::{self, DirEntry};
-use tw_completion_parts::{DirectoryEntry, Listing};
+use tw_hosts::{DirectoryEntry, Listing};
 
 /// Returns true if a name can be typed as part of a path: it has no space, which would end the path, and no control
 /// character.

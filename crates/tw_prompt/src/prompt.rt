@@ -1,10 +1,13 @@
 //! A prompt in a program: lines are read at its terminal, or plainly at a pipe.
 
 ghost use Rattle.std.specs.Prelude.{◌≡◌, string_bytes, IfOk};
+ghost use Rattle.tw_device.specs.Hooked.{IsReadHooked, Prepares};
 ghost use Rattle.tw_device.specs.Joined.{seen_of};
+ghost use Rattle.tw_device.specs.Live.{fresh_frame};
 ghost use Rattle.tw_device.specs.Steps.{IsPrompt};
 ghost use Rattle.tw_prompt_host.specs.Going.{going_at_rest};
-ghost use Rattle.tw_prompt.specs.Places.{accepted_in, line_begun, seen_in, IsReadAndKept, IsRemembered, IsReadFrom, IsReadIn, StaysPrompt};
+ghost use Rattle.tw_prompt.specs.Places.{accepted_in, line_begun, seen_in, IsAskedFrom, IsReadAndKept, IsRemembered, IsReadFrom, IsReadIn, StaysPrompt};
+ghost use Rattle.tw_prompt.specs.Prepared.{PreparesOnly};
 
 use crate::application::{Application, read_with};
 use crate::arguments::Arguments;
@@ -125,12 +128,19 @@ impl<T: DeviceTerminal> TerminalPlace<T> {
         host: &mut PromptHost<PreparedHost, L, K, PreparedLines>,
         prompt: &str,
     ) -> Result<Answer, PromptError>
-        ensures { IsPrompt (seen_of T.state self.old.device)
+        ensures ok { let host_of = ⟦<PromptHost<PreparedHost, L, K, PreparedLines> as LineEditorHost>⟧ in
+            let begun = fresh_frame prompt.now (host_of.value host.old) (T.state self.old.device.terminal) in
+            IfOk result (IsReadHooked host_of.rules host_of.OVERRIDES
+            (Prepares host_of.value PreparesOnly) (seen_of T.state self.old.device)
+            (seen_of T.state self.new.device) begun (host_of.value host.new)) }
+        ensures prompt { IsPrompt (seen_of T.state self.old.device)
             → IsPrompt (seen_of T.state self.new.device) }
     {
         self.begin()?;
-        let answer = read_with(alloc, application, &mut self.device, host, prompt);
-        answer.map_err(|error| self.refusal(error))
+        match read_with(alloc, application, &mut self.device, host, prompt) {
+            Ok(answer) => Ok(answer),
+            Err(error) => Err(self.refusal(error)),
+        }
     }
 }
 
@@ -283,7 +293,7 @@ impl<
         ensures ok { let host = ⟦<PromptHost<H, L, K, V> as LineEditorHost>⟧ in
             let value = host.value self.old.host.value in
             let line = line_begun host.rules host.OVERRIDES prompt.now value in
-            IfOk result (IsReadIn line (seen_in T.state self.old.place.value)
+            IfOk result (IsReadIn (IsReadFrom line) (seen_in T.state self.old.place.value)
             (seen_in T.state self.new.place.value) (host.value self.new.host.value)) }
         ensures prompt { StaysPrompt (seen_in T.state self.old.place.value)
             (seen_in T.state self.new.place.value) }
@@ -308,7 +318,7 @@ impl<
             } in
             let prompt = string_bytes self.old.host.value.screen.prompt in
             let line = line_begun host.rules host.OVERRIDES prompt fresh in
-            IfOk result (IsReadAndKept line self.old.remembers
+            IfOk result (IsReadAndKept IsReadFrom line self.old.remembers
             (seen_in T.state self.old.place.value) (seen_in T.state self.new.place.value)
             (host.value self.new.host.value)) }
         ensures prompt { StaysPrompt (seen_in T.state self.old.place.value)
@@ -388,20 +398,48 @@ impl<T: DeviceTerminal + Drop, L: History + LentLines + Drop, K: KeyPart + Drop>
     K,
     PreparedLines,
 > {
+    /// Reads a line where the prompt reads its lines, with the functions of an application.
+    fn read_line_with<A: Application>(
+        &mut self,
+        application: &mut A,
+        prompt: &str,
+    ) -> Result<Answer, PromptError>
+        ensures ok { let host = ⟦<PromptHost<PreparedHost, L, K, PreparedLines> as LineEditorHost>⟧ in
+            let value = host.value self.old.host.value in
+            let line = line_begun host.rules host.OVERRIDES prompt.now value in
+            IfOk result (IsReadIn (IsAskedFrom (Prepares host.value PreparesOnly) line)
+            (seen_in T.state self.old.place.value) (seen_in T.state self.new.place.value)
+            (host.value self.new.host.value)) }
+        ensures prompt { StaysPrompt (seen_in T.state self.old.place.value)
+            (seen_in T.state self.new.place.value) }
+        ensures remembers { self.new.remembers ≡ self.old.remembers }
+    {
+        let alloc = self.rt.alloc();
+        let answer = match &mut *self.place {
+            Place::Pipe => read_plainly_with(self.rt, application),
+            Place::Terminal(place) => place.read_with(alloc, application, &mut *self.host, prompt),
+        };
+        self.host.validator.validation = Validation::Valid;
+        answer
+    }
+
     /// Reads a line as `read` does, with the functions of an application.
     pub fn read_with<A: Application>(&mut self, application: &mut A) -> Result<Answer, PromptError>
+        ensures ok { let host = ⟦<PromptHost<PreparedHost, L, K, PreparedLines> as LineEditorHost>⟧ in
+            let fresh = record (host.value self.old.host.value) {
+              keys = K.keys.leaves (K.state self.old.host.value.keys);
+              going = going_at_rest;
+            } in
+            let prompt = string_bytes self.old.host.value.screen.prompt in
+            let line = line_begun host.rules host.OVERRIDES prompt fresh in
+            IfOk result (IsReadAndKept (IsAskedFrom (Prepares host.value PreparesOnly)) line
+            self.old.remembers (seen_in T.state self.old.place.value)
+            (seen_in T.state self.new.place.value) (host.value self.new.host.value)) }
         ensures prompt { StaysPrompt (seen_in T.state self.old.place.value)
             (seen_in T.state self.new.place.value) }
     {
         let prompt = self.begin_line()?;
-        let alloc = self.rt.alloc();
-        let answer = match &mut *self.place {
-            Place::Pipe => read_plainly_with(self.rt, application),
-            Place::Terminal(place) => {
-                place.read_with(alloc, application, &mut *self.host, prompt.as_str())
-            }
-        };
-        self.host.validator.validation = Validation::Valid;
+        let answer = self.read_line_with(application, prompt.as_str());
         self.end_line(answer)
     }
 }

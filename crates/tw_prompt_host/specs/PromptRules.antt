@@ -10,10 +10,10 @@ use Rattle.tw_host.specs.ElementView.{ElementView}
 use Rattle.tw_host.specs.HostRules.{HostRules, Resolution, or_default}
 use Rattle.tw_host.specs.KeyTable.{action_of}
 use Rattle.tw_hosts.specs.Settling.{PromptScreenView, screen_after}
-use Rattle.tw_completion_parts.specs.Completers.{context_candidates}
-use Rattle.tw_completion_parts.specs.declared.completers.ContextCompleter.{ContextCompleter}
-use Rattle.tw_completion_parts.specs.declared.file_names.Listing.{Listing}
-use Rattle.tw_completion_parts.specs.SharedCandidate.{beginning_first}
+use Rattle.tw_hosts.specs.Completers.{context_candidates}
+use Rattle.tw_hosts.specs.declared.completers.ContextCompleter.{ContextCompleter}
+use Rattle.tw_hosts.specs.declared.file_names.Listing.{Listing}
+use Rattle.tw_hosts.specs.SharedCandidate.{beginning_first}
 use Rattle.tw_key_parts.specs.KeyRules.{Edited, KeyRules, step_of}
 use Rattle.tw_key_parts.specs.SearchWatch.{has_lines, searches_after}
 use Rattle.tw_prompt_host.specs.Going.{Came, ends_search, event_line, gives_up, going_after, hides_hint}

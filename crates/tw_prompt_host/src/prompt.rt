@@ -29,12 +29,11 @@ use crate::menu::{Menu, Turn};
 use crate::rows::Rows;
 use crate::validator::{Validation, Validator};
 use std::alloc::{AllocError, Global};
-use tw_completion_parts::{ContextCompleter, Listing, beginning_first, complete_in_context};
 use tw_host::{
     Action, CompletionCandidate, LineEditorHost, OutputElement, Overrides, copy_candidates,
     default_action, plain_element,
 };
-use tw_hosts::PromptScreen;
+use tw_hosts::{ContextCompleter, Listing, PromptScreen, beginning_first, complete_in_context};
 use tw_input::InputEvent;
 use tw_key_parts::{Asked, Edit, KeyPart, Step, follow_event, is_filled, searches_after};
 use tw_line::{History, LentLines, LineEditBuffer, Movement};

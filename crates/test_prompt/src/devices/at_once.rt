@@ -5,7 +5,7 @@ use std::alloc::Global;
 use std::test::Fail;
 use test_cases::expect_rows;
 use tw_device::{AnsiTerminal, Answer, DeviceTerminal, Joined, KeyReader, read_line_from};
-use tw_lineedit::{CompletionCandidate, Error, LineEditBuffer, NopLineEditorHost};
+use tw_lineedit::{CompletionCandidate, Error, LineEditBuffer, LineEditorHost, NopLineEditorHost};
 use tw_prompt_host::PreparedHost;
 use tw_sparing::PatientTerminal;
 use tw_terminal::ScreenSize;
@@ -16,16 +16,28 @@ const FIRST_PROMPT: &str = "\r\x1b[K\x1b[C\x1b[J\r\x1b[0m> \r\x1b[2C";
 /// The most bytes of a move, and of what a line is closed with.
 const MOVES: usize = 16;
 
+/// Reads a line whose keys come at once.
+fn read_typed<T: DeviceTerminal, H: LineEditorHost>(
+    alloc: Global,
+    terminal: T,
+    typed: &str,
+    host: &mut H,
+) -> Result<Answer, Error>
+where
+    T: Drop,
+{
+    let mut device = Joined::new(KeyReader::new(alloc, typed.as_bytes()), terminal);
+    read_line_from(alloc, &mut device, host, "> ")
+}
+
 /// Reads a line whose keys come at once, and returns it, with the number of bytes sent if one painting has fewer.
 fn read_at_once(alloc: Global, typed: &str) -> Result<String, Fail> {
     let mut taken = Vec::new(alloc);
     let mut host = NopLineEditorHost::new(alloc);
-    let keys = KeyReader::new(alloc, typed.as_bytes());
     let size = ScreenSize { rows: 24, cols: 80 };
     let answer = {
         let terminal = PatientTerminal::new(alloc, &mut taken, size);
-        let mut device = Joined::new(keys, terminal);
-        read_line_from(alloc, &mut device, &mut host, "> ")?
+        read_typed(alloc, terminal, typed, &mut host)?
     };
     let Answer::Line(line) = answer else {
         return Err(Fail::from("no line"));
@@ -62,8 +74,7 @@ where
         range: 3..4,
         text: String::from_str(alloc, "abc")?,
     })?;
-    let mut device = Joined::new(KeyReader::new(alloc, typed.as_bytes()), terminal);
-    match read_line_from(alloc, &mut device, &mut host, "> ") {
+    match read_typed(alloc, terminal, typed, &mut host) {
         Ok(Answer::End(_)) => Ok("end"),
         Err(Error::CandidateDoesNotFit) => Ok("misfit"),
         _ => Err(Fail::from("another answer")),

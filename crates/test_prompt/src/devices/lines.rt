@@ -157,8 +157,10 @@ fn sent(alloc: Global, terminal: &str, commands: &str, count: usize) -> Result<V
     let (rows, cols) = pair_of(size)?;
     let mut taken = Vec::new(alloc);
     let wire = Wire::new(&mut taken, refused.parse()?);
-    let mut terminal = PatientTerminal::new(alloc, wire, ScreenSize { rows, cols });
-    do_all(alloc, &mut terminal, commands, count)?;
+    {
+        let mut terminal = PatientTerminal::new(alloc, wire, ScreenSize { rows, cols });
+        do_all(alloc, &mut terminal, commands, count)?;
+    }
     Ok(taken)
 }
 

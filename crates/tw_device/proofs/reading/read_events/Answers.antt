@@ -42,15 +42,10 @@ returns-in_err-begin-clause-goes g c =
     let log = g.D.Device.log in
     let value = g.H.LineEditorHost.value in
     let rules_of = g.H.LineEditorHost.rules in
-    let overrides = g.H.LineEditorHost.OVERRIDES in
-    let i = frame state value c.set_prompt.new.self c.args.host.now in
     let f = fresh_frame c.args.prompt.now (value c.args.host.now) (state c.args.device.now) in
-    let before : List EventView = events_in (log c.args.device.now) in
     let set = c.set_prompt.new.self.terminal.now in
     let begun = c.begin.new.editor.terminal.now in
     let same : set ≡ c.args.device.now = search rules in
-    let told : events_in (log begun) ≡ before = told_calls (seen_at state log set) (seen_at state log begun) c.begin.ensures.calls.notes ∙ ap (λ it. events_in (log it)) same in
-    let painted = frame state value c.begin.new.editor c.args.host.now in
     goes_between state log g.D.Device.law g.met.D.Device.law_joins (taken_over rules_of f) _ set _ begun same (search rules)
     (goes_called state log g.D.Device.law g.met.D.Device.law_joins (taken_over rules_of f) set begun c.begin.ensures.calls)
 
@@ -86,15 +81,12 @@ returns-in_err-stop-clause-goes g c =
     let overrides = g.H.LineEditorHost.OVERRIDES in
     let i = frame state value c.set_prompt.new.self c.args.host.now in
     let f = fresh_frame c.args.prompt.now (value c.args.host.now) (state c.args.device.now) in
-    let before : List EventView = events_in (log c.args.device.now) in
     let set = c.set_prompt.new.self.terminal.now in
     let begun = c.begin.new.editor.terminal.now in
     let same : set ≡ c.args.device.now = search rules in
-    let told : events_in (log begun) ≡ before = told_calls (seen_at state log set) (seen_at state log begun) c.begin.ensures.calls.notes ∙ ap (λ it. events_in (log it)) same in
     let painted = frame state value c.begin.new.editor c.args.host.now in
     let opens = opened_at rules_of overrides i f painted (search rules) (c.in_ok-begin.ensures.ok (search rules)) in
     let fed = c.take_events.new.editor.terminal.now in
-    let waiting = frame state value c.take_events.new.editor c.take_events.new.host in
     goes_between state log g.D.Device.law g.met.D.Device.law_joins (taken_over rules_of f) _ set _ fed same (search rules)
     (goes_opened state log g.D.Device.law g.met.D.Device.law_joins (taken_over rules_of f) (taken_on rules_of painted) set begun fed c.begin.ensures.calls c.take_events.ensures.goes
     (λ seen. ap (λ end. end.taken) (sym (opens.run seen))))
@@ -135,17 +127,13 @@ returns-in_err-line-clause-goes g c =
     let overrides = g.H.LineEditorHost.OVERRIDES in
     let i = frame state value c.set_prompt.new.self c.args.host.now in
     let f = fresh_frame c.args.prompt.now (value c.args.host.now) (state c.args.device.now) in
-    let before : List EventView = events_in (log c.args.device.now) in
     let set = c.set_prompt.new.self.terminal.now in
     let begun = c.begin.new.editor.terminal.now in
     let same : set ≡ c.args.device.now = search rules in
-    let told : events_in (log begun) ≡ before = told_calls (seen_at state log set) (seen_at state log begun) c.begin.ensures.calls.notes ∙ ap (λ it. events_in (log it)) same in
     let painted = frame state value c.begin.new.editor c.args.host.now in
     let opens = opened_at rules_of overrides i f painted (search rules) (c.in_ok-begin.ensures.ok (search rules)) in
     let fed = c.take_events.new.editor.terminal.now in
-    let waiting = frame state value c.take_events.new.editor c.take_events.new.host in
     let finished = c.finish.new.editor.terminal.now in
-    let ended : events_in (log finished) ≡ events_in (log fed) = told_calls (seen_at state log fed) (seen_at state log finished) c.finish.ensures.calls.notes in
     goes_between state log g.D.Device.law g.met.D.Device.law_joins (taken_over rules_of f) _ set _ finished same (search rules)
     (goes_closed state log g.D.Device.law g.met.D.Device.law_joins (taken_over rules_of f) set fed finished
     (goes_opened state log g.D.Device.law g.met.D.Device.law_joins (taken_over rules_of f) (taken_on rules_of painted) set begun fed c.begin.ensures.calls c.take_events.ensures.goes
@@ -216,17 +204,13 @@ returns-clause-goes g c =
     let overrides = g.H.LineEditorHost.OVERRIDES in
     let i = frame state value c.set_prompt.new.self c.args.host.now in
     let f = fresh_frame c.args.prompt.now (value c.args.host.now) (state c.args.device.now) in
-    let before : List EventView = events_in (log c.args.device.now) in
     let set = c.set_prompt.new.self.terminal.now in
     let begun = c.begin.new.editor.terminal.now in
     let same : set ≡ c.args.device.now = search rules in
-    let told : events_in (log begun) ≡ before = told_calls (seen_at state log set) (seen_at state log begun) c.begin.ensures.calls.notes ∙ ap (λ it. events_in (log it)) same in
     let painted = frame state value c.begin.new.editor c.args.host.now in
     let opens = opened_at rules_of overrides i f painted (search rules) (c.in_ok-begin.ensures.ok (search rules)) in
     let fed = c.take_events.new.editor.terminal.now in
-    let waiting = frame state value c.take_events.new.editor c.take_events.new.host in
     let finished = c.finish.new.editor.terminal.now in
-    let ended : events_in (log finished) ≡ events_in (log fed) = told_calls (seen_at state log fed) (seen_at state log finished) c.finish.ensures.calls.notes in
     goes_between state log g.D.Device.law g.met.D.Device.law_joins (taken_over rules_of f) _ set _ finished same (search rules)
     (goes_closed state log g.D.Device.law g.met.D.Device.law_joins (taken_over rules_of f) set fed finished
     (goes_opened state log g.D.Device.law g.met.D.Device.law_joins (taken_over rules_of f) (taken_on rules_of painted) set begun fed c.begin.ensures.calls c.take_events.ensures.goes

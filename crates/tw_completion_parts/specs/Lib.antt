@@ -1,4 +1,0 @@
-pub mod SharedCandidate
-pub mod WordLists
-pub mod FileNames
-pub mod Completers
