@@ -1,4 +1,5 @@
 pub mod DrawnRunLemmas
+pub mod ReachLemmas
 pub mod SentRunLemmas
 pub mod ReadingLemmas
 pub mod RestLemmas

@@ -1,5 +1,5 @@
 -- The moves of a painting that has room on a screen are moves that bytes can make.
-use Rattle.std.proofs.Common.{◌≡◌, ◌≤◌, ◌+◌, ◌-ℤ◌, ◌∙◌, ◌++◌, ℕ, ℤ, pos, negsuc, neg_ℤ, true, Some, List, [], ◌∷◌, refl, sym, ap, subst, tt, absurd, map, max, arith}
+use Rattle.std.proofs.Common.{◌≡◌, ◌≤◌, ◌+◌, ◌-ℤ◌, ◌∙◌, ◌++◌, ℕ, ℤ, pos, negsuc, neg_ℤ, true, Some, List, [], ◌∷◌, refl, sym, ap, subst, map, max, arith}
 use Rattle.std.specs.List.{list_all, All, AllByRecursion}
 use Rattle.std.proofs.lemmas.Int.{ints}
 use Rattle.std.proofs.lemmas.List.Elements.{All-head, All-tail}
@@ -59,14 +59,16 @@ module _ {A C : Type 0} (pen : Pen A C) (h w : ℕ) (high : h ≤ most_rows) whe
   last_row : (scene : Scene) → IsTypedScene w scene → (place_after_all w (shown_part w scene) origin).y ≡ pos (painting w scene).height
   last_row scene typed =
       let head : Batch = AllAttributes default_attributes ∷ scene.prompt ++ AllAttributes default_attributes ∷ [] in
-      let end : Batch = edge_space w (place_after_all w (before_line scene.prompt ++ scene.line) origin) ++ lower_changes scene.lower in
-      let text : list_all is_text ((head ++ scene.line) ++ end) ≡ true =
+      let place : Place = place_after_all w (before_line scene.prompt ++ scene.line) origin in
+      let end : Batch = edge_space w place ++ lower_changes scene.lower in
+      let body : Batch = (head ++ scene.line) ++ end in
+      let text : list_all is_text body ≡ true =
       text-append (head ++ scene.line) end
       (text-append head scene.line (text-append scene.prompt (AllAttributes default_attributes ∷ []) (are_texts w scene.prompt typed.prompt) refl) (are_texts w scene.line typed.line))
-      (text-append (edge_space w (place_after_all w (before_line scene.prompt ++ scene.line) origin)) (lower_changes scene.lower) (edge_texts w _) (lower_texts w scene.lower typed.lower)) in
-      let row : ℕ = (steps w (strokes_of pen (pen.attributes default_attributes) ((head ++ scene.line) ++ end)) (clear pen w)).row in
-      let at : (place_after_all w ((head ++ scene.line) ++ end) origin).y ≡ pos row = omega (arith, ints, (tracks-clear pen w _ ((head ++ scene.line) ++ end) text).y) in
-      at ∙ sym (ap pos (measured_height w ((head ++ scene.line) ++ end) text row at))
+      (text-append (edge_space w place) (lower_changes scene.lower) (edge_texts w place) (lower_texts w scene.lower typed.lower)) in
+      let row : ℕ = (steps w (strokes_of pen (pen.attributes default_attributes) body) (clear pen w)).row in
+      let at : (place_after_all w body origin).y ≡ pos row = omega (arith, ints, (tracks-clear pen w (pen.attributes default_attributes) body text).y) in
+      at ∙ sym (ap pos (measured_height w body text row at))
 
   -- so such a station, painted as a measured one that has room, is showable
   showable : (station other : SizedScene) → IsPaintedAs pen station other → HasRoom (Some h) pen other → IsSentAt w station → IsShowable h w station.scene

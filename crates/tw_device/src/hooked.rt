@@ -5,7 +5,7 @@ ghost use Rattle.tw_input.specs.EventView.{event_view};
 ghost use Rattle.tw_lineedit.specs.Frame.{across, frame};
 ghost use Rattle.tw_lineedit.specs.Lent.{KeepsTerminal};
 ghost use Rattle.tw_lineedit.specs.Outcomes.{is_open};
-ghost use Rattle.tw_device.specs.Hooked.{answer_for, EndsBy, EndsPrepared, FeedsAs, IsReadHooked, ShowsTurn, Prepares, TakesLine};
+ghost use Rattle.tw_device.specs.Hooked.{answer_for, EndsBy, EndsPrepared, FeedsAs, IsReadHooked, Prepares, ShowsTurn, TakesLine};
 ghost use Rattle.tw_device.specs.Live.{fresh_frame};
 ghost use Rattle.tw_device.specs.Steps.{seen_at, GoesPromptly};
 
@@ -187,10 +187,11 @@ fn read_begun<D: Device, H: LineEditorHost, K: Hook<H>>(
     }
 }
 
-/// Reads a line with a new editor from a device, as `read_line_from` does, and lets a hook prepare the host: before each
-/// event, and before each painting but the first. The answer, the batches, the screen's size and the host's value are
-/// those of the abstract editor's steps over exactly the events that the device told, with the values that the hook left
-/// (`ok`). What else the device did follows its own law, and all that was taken is sent before it waits (`goes`).
+/// Reads a line with a new editor from a device, as `read_line_from` does, and lets a hook prepare the host: once the
+/// line is begun, before each event, and once the event is handled, if the line goes on, before it is painted. The
+/// answer, the batches, the screen's size and the host's value are those of the abstract editor's steps over exactly the
+/// events that the device told, with the values that the hook left (`ok`). What else the device did follows its own law,
+/// and all that was taken is sent before it waits (`goes`).
 ///
 /// If a function of the hook, the device, the terminal or memory refuses, the line is closed on the screen, and what was
 /// typed of it is lost.

@@ -51,13 +51,16 @@ abbrev pub IsReadFrom : {V : Type 0} → Begun V → Seen → Seen → V → Ans
 IsReadFrom line old new left answer = IsToldAnswer line.rules line.overrides (events_in old.log) (events_in new.log) (state_in new.log)
     (fresh_frame line.prompt line.value old.terminal) left new.terminal answer
 
--- A line was read from a device with what an application prepared; and then it prepared what is left.
-abbrev pub IsAskedFrom : {V : Type 0} → (V → V → Type 0) → Begun V → Seen → Seen → V → Answer → Type 0
-IsAskedFrom {V} Prepares line old new left answer = (value : V)
-    × IsReadHooked line.rules line.overrides Prepares old new (fresh_frame line.prompt line.value old.terminal) value answer
-    × Prepares value left
+-- the same with what an application prepared
+abbrev pub IsHookedFrom : {V : Type 0} → (V → V → Type 0) → Begun V → Seen → Seen → V → Answer → Type 0
+IsHookedFrom Prepares line old new left answer =
+    IsReadHooked line.rules line.overrides Prepares old new (fresh_frame line.prompt line.value old.terminal) left answer
 
--- the same of a prompt, of which nothing is said at a pipe
+-- and then it prepared what is left
+abbrev pub IsAskedFrom : {V : Type 0} → (V → V → Type 0) → Begun V → Seen → Seen → V → Answer → Type 0
+IsAskedFrom {V} Prepares line old new left answer = (value : V) × IsHookedFrom Prepares line old new value answer × Prepares value left
+
+-- what was read so of a prompt, of which nothing is said at a pipe
 abbrev pub IsReadIn : {V : Type 0} → (Seen → Seen → V → Answer → Type 0) → Option Seen → Option Seen → V → Answer → Type 0
 IsReadIn Reads (Some old) (Some new) left answer = Reads old new left answer
 IsReadIn Reads _ _ left answer = ⊤

@@ -6,7 +6,7 @@ ghost use Rattle.tw_device.specs.Joined.{seen_of};
 ghost use Rattle.tw_device.specs.Live.{fresh_frame};
 ghost use Rattle.tw_device.specs.Steps.{IsPrompt};
 ghost use Rattle.tw_prompt_host.specs.Going.{going_at_rest};
-ghost use Rattle.tw_prompt.specs.Places.{accepted_in, line_begun, seen_in, IsAskedFrom, IsReadAndKept, IsRemembered, IsReadFrom, IsReadIn, StaysPrompt};
+ghost use Rattle.tw_prompt.specs.Places.{accepted_in, line_begun, seen_in, IsAskedFrom, IsHookedFrom, IsReadAndKept, IsRemembered, IsReadFrom, IsReadIn, StaysPrompt};
 ghost use Rattle.tw_prompt.specs.Prepared.{PreparesOnly};
 
 use crate::application::{Application, read_with};
@@ -407,7 +407,7 @@ impl<T: DeviceTerminal + Drop, L: History + LentLines + Drop, K: KeyPart + Drop>
         ensures ok { let host = ⟦<PromptHost<PreparedHost, L, K, PreparedLines> as LineEditorHost>⟧ in
             let value = host.value self.old.host.value in
             let line = line_begun host.rules host.OVERRIDES prompt.now value in
-            IfOk result (IsReadIn (IsAskedFrom (Prepares host.value PreparesOnly) line)
+            IfOk result (IsReadIn (IsHookedFrom (Prepares host.value PreparesOnly) line)
             (seen_in T.state self.old.place.value) (seen_in T.state self.new.place.value)
             (host.value self.new.host.value)) }
         ensures prompt { StaysPrompt (seen_in T.state self.old.place.value)
@@ -415,12 +415,19 @@ impl<T: DeviceTerminal + Drop, L: History + LentLines + Drop, K: KeyPart + Drop>
         ensures remembers { self.new.remembers ≡ self.old.remembers }
     {
         let alloc = self.rt.alloc();
-        let answer = match &mut *self.place {
+        match &mut *self.place {
             Place::Pipe => read_plainly_with(self.rt, application),
             Place::Terminal(place) => place.read_with(alloc, application, &mut *self.host, prompt),
-        };
+        }
+    }
+
+    /// Forgets what an application said of a line.
+    fn forget_validation(&mut self)
+        ensures place { self.new.place ≡ self.old.place }
+        ensures remembers { self.new.remembers ≡ self.old.remembers }
+        ensures prepared { PreparesOnly self.old.host.value self.new.host.value }
+    {
         self.host.validator.validation = Validation::Valid;
-        answer
     }
 
     /// Reads a line as `read` does, with the functions of an application.
@@ -440,6 +447,7 @@ impl<T: DeviceTerminal + Drop, L: History + LentLines + Drop, K: KeyPart + Drop>
     {
         let prompt = self.begin_line()?;
         let answer = self.read_line_with(application, prompt.as_str());
+        self.forget_validation();
         self.end_line(answer)
     }
 }
