@@ -70,7 +70,6 @@ module _ (it : AnsiTerminal Wrote) where
   unfolding worked_runs settled_pieces needed_by_text
   line = answers_show_lines 5 prompt continuation text [] scene.scene (record {
     wide = omega arith;
-    high = omega arith;
     narrow = omega arith;
     printable = record { printable_prompt = refl; printable_continuation = refl; rows_before = refl; rows_behind = refl };
     short = omega arith;
@@ -148,6 +147,7 @@ module _ (it : AnsiTerminal Wrote) where
       let s = closings_are_shown characters rows_rules run 4 5 [] station [] [] (plain_station scene) (first_known 5) full before (λ change a. refl) characters_join (record {
         comes = comes_measured rows_rules (Some 4) run [] station [] prompt continuation text [] before (comes before refl (omega arith));
         sent = (record { cols = refl; typed = record { prompt = (refl, tt); line = (refl, tt); lower = tt } }, tt);
+        high = omega arith;
         narrow = omega arith;
         color = tt;
         shows = first_is_shown characters 4 5 full (omega arith) (omega arith) refl refl refl refl;
