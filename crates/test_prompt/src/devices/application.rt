@@ -119,6 +119,30 @@ abcdefghij\x0d;\x0d => "abcdefghij\\n;" one/two/> abcdefghij//- ;
 \x1b[200~a\x0d;\x1b[201~b;\x0d => "a\\n;b;" one/two/> a/- ;b;
 "#;
 
+/// Returns how many clearings are sent: one a painting, one more above which news stand, and the closing one.
+fn clearings_sent(alloc: Global, typed: &str) -> Result<String, Fail> {
+    let bytes = bytes_of(alloc, typed)?;
+    let mut taken = Vec::new(alloc);
+    {
+        let terminal = AnsiTerminal::new(alloc, &mut taken, SIZE);
+        let _line = read_at(alloc, bytes.as_slice(), terminal)?;
+    }
+    let sent = str::from_utf8(taken.as_slice()).or(Err("no text"))?;
+    Ok(format!(in alloc; "{}", sent.split("\x1b[J").count().saturating_sub(1))?)
+}
+
+/// The first painting, one an event, and the closing.
+const CLEARINGS: &str = r"
+;\x0d => 4
+a;\x0d => 6
+ab;\x0d => 7
+";
+
+#[test]
+fn an_application_s_line_is_painted_once_an_event(rt: HostRuntime) -> Result<(), Fail> {
+    expect_rows(rt.alloc(), CLEARINGS, clearings_sent)
+}
+
 #[test]
 fn an_application_is_asked_between_events(rt: HostRuntime) -> Result<(), Fail> {
     expect_rows(rt.alloc(), READ, read_shown)
