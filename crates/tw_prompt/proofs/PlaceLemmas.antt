@@ -1,12 +1,12 @@
 -- What a prompt reads at a terminal that was asked to mark pasted texts.
-use Rattle.std.proofs.Common.{◌≡◌, Bool, IfOk, List, ℕ, Option, Some, None, Result, Ok, Err, ap, subst, sym, ◌∙◌}
+use Rattle.std.proofs.Common.{◌≡◌, Bool, IfOk, List, ℕ, Option, Result, Ok, Err, ap, subst, sym, ◌∙◌}
 use Rattle.tw_lineedit.specs.HostRules.{HostRules}
 use Rattle.tw_lineedit.specs.declared.Overrides.{Overrides}
 use Rattle.tw_device.specs.Hooked.{IsReadHooked}
 use Rattle.tw_device.specs.Live.{fresh_frame}
 use Rattle.tw_device.specs.Steps.{Seen}
 use Rattle.tw_device.specs.declared.reading.Answer.{Answer}
-use Rattle.tw_prompt.specs.Places.{Begun, IsAskedFrom, IsHookedFrom, IsReadAndKept, IsRemembered, IsReadFrom, IsReadIn, accepted_in, line_begun}
+use Rattle.tw_prompt.specs.Places.{Begun, IsReadAndKept, IsRemembered, IsReadFrom, IsReadIn, accepted_in, line_begun}
 
 -- a line that is read with the same
 pub begun_as : {V : Type 0} (rules : HostRules V) (overrides : Overrides) (p q : List ℕ) (v w : V) → p ≡ q → v ≡ w → line_begun rules overrides p v ≡ line_begun rules overrides q w
@@ -40,11 +40,3 @@ module _ {V : Type 0} (Reads : Begun V → Seen → Seen → V → Answer → Ty
         read = read_between old was is new left it same-old same-new (subst (λ l. IsReadIn (Reads l) was is left it) same-line read);
         kept = subst (λ b. IsRemembered line.rules.lines b (accepted_in it) left after) same-choice (subst (λ l. IsRemembered l.rules.lines also (accepted_in it) left after) same-line kept);
       })
-
--- what was read of a prompt with an application, which then prepares more
-pub asked_after : {V E : Type 0} (Prepares : V → V → Type 0) (line : Begun V) (result : Result Answer E) (old new : Option Seen) (value left : V)
-    → IfOk result (IsReadIn (IsHookedFrom Prepares line) old new value) → Prepares value left → IfOk result (IsReadIn (IsAskedFrom Prepares line) old new left)
-asked_after Prepares line (Err e) old new value left read prepares = tt
-asked_after Prepares line (Ok answer) (Some old) (Some new) value left read prepares = (value, read, prepares)
-asked_after Prepares line (Ok answer) (Some old) None value left read prepares = tt
-asked_after Prepares line (Ok answer) None new value left read prepares = tt

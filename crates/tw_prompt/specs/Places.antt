@@ -4,7 +4,6 @@ use Rattle.tw_line.specs.NearestMatch.{last_line}
 use Rattle.tw_terminal.specs.TerminalState.{TerminalState}
 use Rattle.tw_lineedit.specs.HostRules.{HostRules}
 use Rattle.tw_lineedit.specs.declared.Overrides.{Overrides}
-use Rattle.tw_device.specs.Hooked.{IsReadHooked}
 use Rattle.tw_device.specs.Joined.{seen_of}
 use Rattle.tw_device.specs.Live.{IsToldAnswer, fresh_frame}
 use Rattle.tw_device.specs.Steps.{IsPrompt, Seen, events_in, state_in}
@@ -50,15 +49,6 @@ line_begun rules overrides prompt value = record { rules = rules; overrides = ov
 abbrev pub IsReadFrom : {V : Type 0} → Begun V → Seen → Seen → V → Answer → Type 0
 IsReadFrom line old new left answer = IsToldAnswer line.rules line.overrides (events_in old.log) (events_in new.log) (state_in new.log)
     (fresh_frame line.prompt line.value old.terminal) left new.terminal answer
-
--- the same with what an application prepared
-abbrev pub IsHookedFrom : {V : Type 0} → (V → V → Type 0) → Begun V → Seen → Seen → V → Answer → Type 0
-IsHookedFrom Prepares line old new left answer =
-    IsReadHooked line.rules line.overrides Prepares old new (fresh_frame line.prompt line.value old.terminal) left answer
-
--- and then it prepared what is left
-abbrev pub IsAskedFrom : {V : Type 0} → (V → V → Type 0) → Begun V → Seen → Seen → V → Answer → Type 0
-IsAskedFrom {V} Prepares line old new left answer = (value : V) × IsHookedFrom Prepares line old new value answer × Prepares value left
 
 -- what was read so of a prompt, of which nothing is said at a pipe
 abbrev pub IsReadIn : {V : Type 0} → (Seen → Seen → V → Answer → Type 0) → Option Seen → Option Seen → V → Answer → Type 0

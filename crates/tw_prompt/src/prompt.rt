@@ -6,7 +6,7 @@ ghost use Rattle.tw_device.specs.Joined.{seen_of};
 ghost use Rattle.tw_device.specs.Live.{fresh_frame};
 ghost use Rattle.tw_device.specs.Steps.{IsPrompt};
 ghost use Rattle.tw_prompt_host.specs.Going.{going_at_rest};
-ghost use Rattle.tw_prompt.specs.Places.{accepted_in, line_begun, seen_in, IsAskedFrom, IsHookedFrom, IsReadAndKept, IsRemembered, IsReadFrom, IsReadIn, StaysPrompt};
+ghost use Rattle.tw_prompt.specs.Places.{accepted_in, line_begun, seen_in, IsReadAndKept, IsRemembered, IsReadFrom, IsReadIn, StaysPrompt};
 ghost use Rattle.tw_prompt.specs.Prepared.{PreparesOnly};
 
 use crate::application::{Application, read_with};
@@ -398,56 +398,20 @@ impl<T: DeviceTerminal + Drop, L: History + LentLines + Drop, K: KeyPart + Drop>
     K,
     PreparedLines,
 > {
-    /// Reads a line where the prompt reads its lines, with the functions of an application.
-    fn read_line_with<A: Application>(
-        &mut self,
-        application: &mut A,
-        prompt: &str,
-    ) -> Result<Answer, PromptError>
-        ensures ok { let host = ⟦<PromptHost<PreparedHost, L, K, PreparedLines> as LineEditorHost>⟧ in
-            let value = host.value self.old.host.value in
-            let line = line_begun host.rules host.OVERRIDES prompt.now value in
-            IfOk result (IsReadIn (IsHookedFrom (Prepares host.value PreparesOnly) line)
-            (seen_in T.state self.old.place.value) (seen_in T.state self.new.place.value)
-            (host.value self.new.host.value)) }
-        ensures prompt { StaysPrompt (seen_in T.state self.old.place.value)
-            (seen_in T.state self.new.place.value) }
-        ensures remembers { self.new.remembers ≡ self.old.remembers }
-    {
-        let alloc = self.rt.alloc();
-        match &mut *self.place {
-            Place::Pipe => read_plainly_with(self.rt, application),
-            Place::Terminal(place) => place.read_with(alloc, application, &mut *self.host, prompt),
-        }
-    }
-
-    /// Forgets what an application said of a line.
-    fn forget_validation(&mut self)
-        ensures place { self.new.place ≡ self.old.place }
-        ensures remembers { self.new.remembers ≡ self.old.remembers }
-        ensures prepared { PreparesOnly self.old.host.value self.new.host.value }
-    {
-        self.host.validator.validation = Validation::Valid;
-    }
-
     /// Reads a line as `read` does, with the functions of an application.
     pub fn read_with<A: Application>(&mut self, application: &mut A) -> Result<Answer, PromptError>
-        ensures ok { let host = ⟦<PromptHost<PreparedHost, L, K, PreparedLines> as LineEditorHost>⟧ in
-            let fresh = record (host.value self.old.host.value) {
-              keys = K.keys.leaves (K.state self.old.host.value.keys);
-              going = going_at_rest;
-            } in
-            let prompt = string_bytes self.old.host.value.screen.prompt in
-            let line = line_begun host.rules host.OVERRIDES prompt fresh in
-            IfOk result (IsReadAndKept (IsAskedFrom (Prepares host.value PreparesOnly)) line
-            self.old.remembers (seen_in T.state self.old.place.value)
-            (seen_in T.state self.new.place.value) (host.value self.new.host.value)) }
         ensures prompt { StaysPrompt (seen_in T.state self.old.place.value)
             (seen_in T.state self.new.place.value) }
     {
         let prompt = self.begin_line()?;
-        let answer = self.read_line_with(application, prompt.as_str());
-        self.forget_validation();
+        let alloc = self.rt.alloc();
+        let answer = match &mut *self.place {
+            Place::Pipe => read_plainly_with(self.rt, application),
+            Place::Terminal(place) => {
+                place.read_with(alloc, application, &mut *self.host, prompt.as_str())
+            }
+        };
+        self.host.validator.validation = Validation::Valid;
         self.end_line(answer)
     }
 }
