@@ -12,7 +12,7 @@ use tw_device::Answer;
 use tw_history_parts::{FileHistory, RecentHistory};
 use tw_key_parts::RowKeys;
 use tw_lineedit::LineEditorHost;
-use tw_prompt::{AllKeys, Prompt, PromptError, PromptTerminal, all_keys, visible};
+use tw_prompt::{AllKeys, PromptError, PromptOver, PromptTerminal, all_keys, visible};
 use tw_prompt_host::{Hints, PreparedHost, PreparedLines, PromptHost, Rows};
 
 /// How many statements the history keeps.
@@ -48,7 +48,13 @@ pub struct Options {
 pub struct Session<'a> {
     rt: HostRuntime,
     options: &'a Options,
-    prompt: Prompt<PromptTerminal, PreparedHost, FileHistory, (RowKeys, AllKeys), PreparedLines>,
+    prompt: PromptOver<
+        PromptTerminal,
+        PreparedHost,
+        FileHistory,
+        (RowKeys, AllKeys),
+        PreparedLines,
+    >,
     language: Language,
     /// What was read of a statement that has no end yet. At a terminal a line has whole statements, in rows, unless a
     /// search accepted it.
@@ -125,7 +131,7 @@ impl<'a> Session<'a> {
             .with_validator(PreparedLines::new(alloc));
         host.hints = Hints::dim();
         host.rows = Rows::Several(continuation);
-        let prompt = Prompt::over(rt, host)?;
+        let prompt = PromptOver::over(rt, host)?;
         Ok(Session {
             rt,
             options,

@@ -18,7 +18,7 @@ use tw_device::{AnsiTerminal, Answer, DeviceTerminal};
 use tw_history_parts::RecentHistory;
 use tw_hosts::TableHost;
 use tw_lineedit::BasicHistory;
-use tw_prompt::{Arguments, Prompt, TerminalInput, open_streams, read_listing};
+use tw_prompt::{Arguments, PromptOver, TerminalInput, open_streams, read_listing};
 use tw_prompt_host::NestedLines;
 use tw_sparing::PatientTerminal;
 use tw_terminal::ScreenSize;
@@ -27,7 +27,7 @@ use tw_terminal::ScreenSize;
 const PROMPT: &str = "> ";
 
 /// The prompt at a terminal.
-type DemoPrompt<T> = Prompt<T, TableHost<BasicHistory>, RecentHistory, DemoKeys, NestedLines>;
+type DemoPrompt<T> = PromptOver<T, TableHost<BasicHistory>, RecentHistory, DemoKeys, NestedLines>;
 
 /// Prints a line. Returns false for `quit`.
 fn obey<T: DeviceTerminal + Drop>(
@@ -82,7 +82,10 @@ fn serve_at<T: DeviceTerminal + Drop>(
     size: ScreenSize,
 ) -> Result<(), anyhow::Error> {
     let host = demo_host(rt.alloc(), PROMPT)?;
-    serve(rt, Prompt::at_terminal(rt, host, input, terminal, size)?)
+    serve(
+        rt,
+        PromptOver::at_terminal(rt, host, input, terminal, size)?,
+    )
 }
 
 /// What the terminal is sent.
@@ -110,7 +113,7 @@ fn main(rt: HostRuntime) -> Result<(), anyhow::Error> {
     let arguments = Arguments::read(rt)?;
     let way = way_of(&arguments.own)?;
     let Some(size) = arguments.size else {
-        return serve(rt, Prompt::at_pipe(rt, demo_host(alloc, PROMPT)?)?);
+        return serve(rt, PromptOver::at_pipe(rt, demo_host(alloc, PROMPT)?)?);
     };
     let file = arguments.file.as_ref().map(|file| file.as_str());
     let (input, output) = open_streams(rt, file)?;

@@ -48,7 +48,7 @@ pub use keys::{AllKeys, all_keys};
 pub use listings::read_listing;
 pub use marks::{BEGIN, END};
 pub use pictures::{visible, visible_rows};
-pub use prompt::{Prompt, PromptTerminal};
+pub use prompt::{Prompt, PromptOver, PromptTerminal};
 pub use sizes::{fitting, usable};
 pub use streams::{LastError, TerminalInput, TerminalOutput, open_streams};
 pub use tw_typed::Typed;

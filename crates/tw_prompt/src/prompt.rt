@@ -51,9 +51,10 @@ enum Place<T> {
 /// The terminal of a prompt, which is sent what differs from what it shows.
 pub type PromptTerminal = PatientTerminal<TerminalOutput>;
 
-/// A prompt in a program that `tools/at_terminal` starts. At a pipe it reads plain lines and shows no prompt.
+/// A prompt over parts of your own, in a program that `tools/at_terminal` starts. At a pipe it reads plain lines and
+/// shows no prompt.
 #[derive(Drop)]
-pub struct Prompt<T, H, L, K, V> {
+pub struct PromptOver<T, H, L, K, V> {
     /// The host: what shows and completes the line, the history, the keys. It is boxed, since a program that owns all
     /// of its fields takes minutes to prove.
     pub host: Box<PromptHost<H, L, K, V>>,
@@ -62,6 +63,9 @@ pub struct Prompt<T, H, L, K, V> {
     rt: HostRuntime,
     place: Box<Place<T>>,
 }
+
+/// A prompt of ready parts.
+pub type Prompt = PromptOver<PromptTerminal, PreparedHost, BasicHistory, AllKeys, PreparedLines>;
 
 impl<T: DeviceTerminal> TerminalPlace<T> {
     /// Returns why a call failed, which the streams may know better.
@@ -171,7 +175,7 @@ fn pasted_for(rows: &Rows) -> Pasted {
     }
 }
 
-impl Prompt<PromptTerminal, PreparedHost, BasicHistory, AllKeys, PreparedLines> {
+impl PromptOver<PromptTerminal, PreparedHost, BasicHistory, AllKeys, PreparedLines> {
     /// Opens a prompt with this text, all keys, hints after the cursor, and an empty history.
     pub fn open(rt: HostRuntime, prompt: &str) -> Result<Self, PromptError> {
         let alloc = rt.alloc();
@@ -180,7 +184,7 @@ impl Prompt<PromptTerminal, PreparedHost, BasicHistory, AllKeys, PreparedLines> 
             .with_keys(all_keys(alloc))
             .with_validator(PreparedLines::new(alloc));
         host.hints = Hints::dim();
-        Prompt::over(rt, host)
+        PromptOver::over(rt, host)
     }
 }
 
@@ -189,26 +193,26 @@ impl<
     L: History + LentLines + Drop,
     K: KeyPart + Drop,
     V: Validator + Drop,
-> Prompt<PromptTerminal, H, L, K, V> {
+> PromptOver<PromptTerminal, H, L, K, V> {
     /// Opens a prompt with this host, which gets the columns of the terminal. Fails with `PromptError::Arguments` if the
     /// program's arguments `-at` or `-tty` lack what belongs to them, and with `PromptError::Opening` if the file of the
     /// terminal can't be opened.
     pub fn over(rt: HostRuntime, host: PromptHost<H, L, K, V>) -> Result<Self, PromptError> {
         let arguments = Arguments::read(rt)?;
         let Some(size) = arguments.size else {
-            return Prompt::at_pipe(rt, host);
+            return PromptOver::at_pipe(rt, host);
         };
         let file = arguments.file.as_ref().map(|file| file.as_str());
         let (input, output) = open_streams(rt, file)?;
         let terminal = PatientTerminal::new(rt.alloc(), output, size);
-        Prompt::at_terminal(rt, host, input, terminal, size)
+        PromptOver::at_terminal(rt, host, input, terminal, size)
     }
 
     /// Creates a prompt at standard input, which is no terminal.
     pub fn at_pipe(rt: HostRuntime, host: PromptHost<H, L, K, V>) -> Result<Self, PromptError> {
         let host = Box::new(rt.alloc(), host)?;
         let place = Box::new(rt.alloc(), Place::Pipe)?;
-        Ok(Prompt {
+        Ok(PromptOver {
             host,
             remembers: true,
             rt,
@@ -223,7 +227,7 @@ impl<
     L: History + LentLines + Drop,
     K: KeyPart + Drop,
     V: Validator + Drop,
-> Prompt<T, H, L, K, V> {
+> PromptOver<T, H, L, K, V> {
     /// Creates a prompt at a terminal of this size, whose bytes come from `input`. The host gets its columns.
     pub fn at_terminal(
         rt: HostRuntime,
@@ -240,7 +244,7 @@ impl<
             device: Joined::new(PromptEvents::new(rt.alloc(), input, rt), terminal),
             marks: false,
         });
-        Ok(Prompt {
+        Ok(PromptOver {
             host,
             remembers: true,
             rt,
@@ -391,7 +395,7 @@ impl<
     }
 }
 
-impl<T: DeviceTerminal + Drop, L: History + LentLines + Drop, K: KeyPart + Drop> Prompt<
+impl<T: DeviceTerminal + Drop, L: History + LentLines + Drop, K: KeyPart + Drop> PromptOver<
     T,
     PreparedHost,
     L,

@@ -1,7 +1,7 @@
 use Rattle.std.proofs.Common.{rules}
 use Rattle.tw_prompt.proofs.PlaceLemmas.{answered, begun_as}
 use Rattle.tw_prompt.specs.Places.{IsReadFrom}
-use Rattle.tw_prompt.proofs.prompt.Prompt.read.Goals as goal
+use Rattle.tw_prompt.proofs.prompt.PromptOver.read.Goals as goal
 
 pub returns-clause-ok : goal.returns-clause-ok
 returns-clause-ok g c =
