@@ -6,11 +6,7 @@ use anyhow::anyhow;
 use serde_json::Value;
 use std::alloc::{AllocError, Global};
 use std::fs;
-use tw_device::Answer;
-use tw_lineedit::CompletionCandidate;
-use tw_prompt::{Application, Arguments, Prompt, WordBefore, visible_rows};
-use tw_prompt_host::StyledRange;
-use tw_surface::{CellAttributes, ColorAttribute};
+use tw_prompt::{Application, Arguments, Offers, Painter, Prompt, Style, visible_rows};
 
 /// A value, which is explored.
 #[derive(Drop)]
@@ -55,69 +51,42 @@ impl Explorer {
 }
 
 impl Application for Explorer {
-    fn complete(
-        &self,
-        alloc: Global,
-        line: &str,
-        cursor: usize,
-    ) -> Result<Vec<CompletionCandidate>, AllocError> {
-        let mut candidates = Vec::new(alloc);
-        let word = WordBefore::new(line, cursor, &['.']);
-        let path = line
-            .get(..cursor)
-            .unwrap_or("")
-            .strip_suffix(word.text)
-            .unwrap_or("");
-        let Some(Value::Object(members)) = self.at(path.strip_suffix('.').unwrap_or(path)) else {
-            return Ok(candidates);
-        };
-        for (name, _) in members {
-            word.offer(alloc, &mut candidates, name.as_str())?;
-        }
-        Ok(candidates)
+    fn is_word(&self, c: char) -> bool {
+        c != '.'
     }
 
-    fn colours(
-        &self,
-        alloc: Global,
-        line: &str,
-        _cursor: usize,
-    ) -> Result<Vec<StyledRange>, AllocError> {
-        let mut red = CellAttributes::default();
-        red.foreground = ColorAttribute::PaletteIndex(1);
-        let unknown = StyledRange {
-            start: self.known_len(line),
-            end: line.len(),
-            attributes: red,
+    fn complete(&self, _line: &str, offers: &mut Offers<'_>) -> Result<(), AllocError> {
+        let path = offers.before.strip_suffix('.').unwrap_or("");
+        if let Some(Value::Object(members)) = self.at(path) {
+            for (name, _) in members {
+                offers.offer(name.as_str())?;
+            }
+        }
+        Ok(())
+    }
+
+    fn highlight(&self, line: &str, painter: &mut Painter) -> Result<(), AllocError> {
+        painter.paint(self.known_len(line)..line.len(), Style::red())
+    }
+
+    fn answer(&mut self, alloc: Global, line: &str) -> Result<Option<String>, AllocError> {
+        let shown = match self.at(line) {
+            Some(value) => value.to_string_pretty(alloc)?,
+            None => format!(in alloc; "nothing is at {line}")?,
         };
-        Ok(vec![in alloc; unknown]?)
+        Ok(Some(visible_rows(alloc, shown.as_str())?))
     }
 }
 
 fn main(rt: HostRuntime) -> Result<(), anyhow::Error> {
-    let alloc = rt.alloc();
     let arguments = Arguments::read(rt)?;
     let Some(path) = arguments.own.as_slice().first() else {
         return Err(anyhow!("it wants a file of JSON"));
     };
     let text = fs::read_to_string(&rt, path)?;
     let mut explorer = Explorer {
-        root: Value::from_str(alloc, text.as_str())?,
+        root: Value::from_str(rt.alloc(), text.as_str())?,
     };
-    let mut prompt = Prompt::open(rt, "json> ")?;
-    for _ in 0..u64::MAX {
-        match prompt.read_with(&mut explorer)? {
-            Answer::Line(line) => {
-                let shown = match explorer.at(line.as_str()) {
-                    Some(value) => value.to_string_pretty(alloc)?,
-                    None => format!(in alloc; "nothing is at {line}")?,
-                };
-                prompt.print(visible_rows(alloc, shown.as_str())?.as_str())?;
-            }
-            Answer::Cancelled => {}
-            Answer::End(_) => break,
-        }
-    }
-    prompt.close()?;
+    let _end = Prompt::open(rt, "json> ")?.run(&mut explorer)?;
     Ok(())
 }

@@ -5,10 +5,7 @@ use sql_language::{
     tokenize,
 };
 use std::alloc::{AllocError, Global};
-use tw_lineedit::CompletionCandidate;
-use tw_prompt::Application;
-use tw_prompt_host::{StyledRange, Validation};
-use tw_surface::{CellAttributes, ColorAttribute, Intensity};
+use tw_prompt::{Application, Offers, Painter, Style, Validation};
 
 /// The words that are shown as keywords, and completed.
 const KEYWORDS: &str =
@@ -76,68 +73,46 @@ impl Language {
         })
     }
 
-    /// Returns the attributes of a token: keywords are bold, texts green, numbers cyan and comments grey.
-    fn look(&self, token: Token<'_>) -> CellAttributes {
-        let mut attributes = CellAttributes::default();
+    /// Returns the style of a token: keywords are bold, texts green, numbers cyan and comments grey.
+    fn style(&self, token: Token<'_>) -> Option<Style> {
         match token.kind {
-            TokenKind::Word if has_word(&self.keywords, token.text) => {
-                attributes.intensity = Intensity::Bold;
-            }
-            TokenKind::Text => attributes.foreground = ColorAttribute::PaletteIndex(2),
-            TokenKind::Number => attributes.foreground = ColorAttribute::PaletteIndex(6),
-            TokenKind::Comment => attributes.foreground = ColorAttribute::PaletteIndex(8),
-            _ => {}
+            TokenKind::Word if has_word(&self.keywords, token.text) => Some(Style::plain().bold()),
+            TokenKind::Text => Some(Style::green()),
+            TokenKind::Number => Some(Style::cyan()),
+            TokenKind::Comment => Some(Style::grey()),
+            _ => None,
         }
-        attributes
     }
 }
 
 impl Application for Language {
-    fn complete(
-        &self,
-        alloc: Global,
-        line: &str,
-        cursor: usize,
-    ) -> Result<Vec<CompletionCandidate>, AllocError> {
-        let mut candidates = Vec::new(alloc);
+    fn complete(&self, line: &str, offers: &mut Offers<'_>) -> Result<(), AllocError> {
         if line.starts_with('.') {
-            return Ok(candidates);
+            return Ok(());
         }
+        let alloc = offers.alloc();
+        let cursor = offers.cursor;
         let before = line.get(..cursor).unwrap_or("");
         let Some(word) = begun_word(alloc, before)? else {
-            return Ok(candidates);
+            return Ok(());
         };
         for text in completions(alloc, &self.keywords, &self.catalog, line, word)? {
-            candidates.push(CompletionCandidate {
-                range: cursor.saturating_sub(word.len())..cursor,
-                text,
-            })?;
+            offers.add(cursor.saturating_sub(word.len())..cursor, text)?;
         }
-        Ok(candidates)
+        Ok(())
     }
 
-    fn colours(
-        &self,
-        alloc: Global,
-        line: &str,
-        _cursor: usize,
-    ) -> Result<Vec<StyledRange>, AllocError> {
-        let mut ranges = Vec::new(alloc);
+    fn highlight(&self, line: &str, painter: &mut Painter) -> Result<(), AllocError> {
         let mut start: usize = 0;
-        let tokens = tokenize(alloc, line)?;
+        let tokens = tokenize(painter.alloc(), line)?;
         for token in &tokens {
             let end = start.saturating_add(token.text.len());
-            let attributes = self.look(*token);
-            if attributes != CellAttributes::default() {
-                ranges.push(StyledRange {
-                    start,
-                    end,
-                    attributes,
-                })?;
+            if let Some(style) = self.style(*token) {
+                painter.paint(start..end, style)?;
             }
             start = end;
         }
-        Ok(ranges)
+        Ok(())
     }
 
     /// Accepts a command, statements each of which ends, and each line of a script.

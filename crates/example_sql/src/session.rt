@@ -8,12 +8,7 @@ use sql_language::{statement_len, tokenize};
 use sqlite::{Alter, Connection, Error};
 use std::alloc::{AllocError, Global};
 use std::io::Write;
-use tw_device::Answer;
-use tw_history_parts::{FileHistory, RecentHistory};
-use tw_key_parts::RowKeys;
-use tw_lineedit::LineEditorHost;
-use tw_prompt::{AllKeys, PromptError, PromptOver, PromptTerminal, all_keys, visible};
-use tw_prompt_host::{Hints, PreparedHost, PreparedLines, PromptHost, Rows};
+use tw_prompt::{Answer, Prompt, PromptError, visible};
 
 /// How many statements the history keeps.
 const STATEMENTS_KEPT: usize = 1000;
@@ -26,9 +21,6 @@ const PROMPT: &str = "sql> ";
 
 /// The prompt of a statement that goes on.
 const CONTINUATION: &str = "   ...> ";
-
-/// The message if statements can't be written.
-const NOT_KEPT: &str = "the history can't be written: it is kept up to the end of the session";
 
 /// What the arguments ask for.
 #[derive(Drop)]
@@ -48,13 +40,7 @@ pub struct Options {
 pub struct Session<'a> {
     rt: HostRuntime,
     options: &'a Options,
-    prompt: PromptOver<
-        PromptTerminal,
-        PreparedHost,
-        FileHistory,
-        (RowKeys, AllKeys),
-        PreparedLines,
-    >,
+    prompt: Prompt,
     language: Language,
     /// What was read of a statement that has no end yet. At a terminal a line has whole statements, in rows, unless a
     /// search accepted it.
@@ -94,15 +80,6 @@ impl From<PromptError> for Failure {
     }
 }
 
-/// Opens the history of statements.
-fn open_history(rt: HostRuntime, options: &Options) -> Result<FileHistory, AllocError> {
-    let statements = RecentHistory::unique(rt.alloc(), STATEMENTS_KEPT);
-    match &options.history {
-        Some(path) => FileHistory::open(rt, path.as_str(), statements),
-        None => Ok(FileHistory::in_memory(rt.alloc(), statements)),
-    }
-}
-
 /// Returns the beginning of a statement in one line.
 fn beginning(alloc: Global, statement: &str) -> Result<String, AllocError> {
     let mut line = String::new(alloc);
@@ -121,17 +98,12 @@ impl<'a> Session<'a> {
     /// Opens a session at the terminal of the arguments, or at a pipe.
     pub fn open(rt: HostRuntime, options: &'a Options) -> Result<Self, anyhow::Error> {
         let alloc = rt.alloc();
-        let history = open_history(rt, options)?;
         let language = Language::new(alloc, options.is_typed)?;
-        let continuation = String::from_str(alloc, CONTINUATION)?;
-        let mut host = PromptHost::new(alloc, PROMPT, 80)?
-            .with_host(PreparedHost::new(alloc))
-            .with_history(history)
-            .with_keys((RowKeys::new(), all_keys(alloc)))
-            .with_validator(PreparedLines::new(alloc));
-        host.hints = Hints::dim();
-        host.rows = Rows::Several(continuation);
-        let prompt = PromptOver::over(rt, host)?;
+        let mut prompt = Prompt::open(rt, PROMPT)?;
+        prompt.show_rows(CONTINUATION)?;
+        if let Some(path) = &options.history {
+            prompt.keep_history(path.as_str(), STATEMENTS_KEPT)?;
+        }
         Ok(Session {
             rt,
             options,
@@ -148,17 +120,13 @@ impl<'a> Session<'a> {
     /// Takes lines up to the end of the session. Returns true if a statement of a script failed, or if an error ended
     /// the session.
     pub fn run<S: Alter>(mut self, connection: &mut Connection<S>) -> Result<bool, anyhow::Error> {
-        if let Some(unread) = self.prompt.host.history().unread() {
-            let told = format!(in self.rt.alloc(); "the history: {unread}")?;
-            self.tell(told.as_str())?;
-        }
         for _ in 0..u64::MAX {
             self.read_line(connection)?;
             if self.has_ended || self.bails() {
                 break;
             }
         }
-        self.tell_if_not_kept()?;
+        self.prompt.tell_unkept()?;
         let Session {
             prompt,
             options,
@@ -187,7 +155,7 @@ impl<'a> Session<'a> {
 
     /// Reads a line, and does what it says. Before it the names are learned that the database has now.
     fn read_line<S: Alter>(&mut self, connection: &mut Connection<S>) -> Result<(), anyhow::Error> {
-        self.tell_if_not_kept()?;
+        self.prompt.tell_unkept()?;
         if self.options.is_typed {
             if let Ok(catalog) = read_catalog(self.rt.alloc(), connection) {
                 self.language.catalog = catalog;
@@ -342,14 +310,6 @@ impl<'a> Session<'a> {
         let told = format!(in alloc; "line {}: {reason}: {statement}", self.begun_line)?;
         let shown = visible(alloc, told.as_str())?;
         writeln!(self.rt.stderr(), "{shown}")?;
-        Ok(())
-    }
-
-    /// Tells if the history could not be written.
-    fn tell_if_not_kept(&mut self) -> Result<(), anyhow::Error> {
-        if self.prompt.host.history().take_failure() {
-            self.tell(NOT_KEPT)?;
-        }
         Ok(())
     }
 }

@@ -1,8 +1,7 @@
 //! The first example of README.md: a prompt that prints what it reads.
 #![tactic(auto)]
 
-use tw_device::Answer;
-use tw_prompt::Prompt;
+use tw_prompt::{Answer, Prompt};
 
 fn main(rt: HostRuntime) -> Result<(), anyhow::Error> {
     let alloc = rt.alloc();

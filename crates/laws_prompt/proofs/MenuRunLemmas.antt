@@ -1,7 +1,6 @@
 -- A menu tells at each event of a run what stands in the line.
 use Rattle.std.proofs.Common.{◌≡◌, ◌∙◌, ℕ, zero, suc, ◌+◌, ◌-◌, ◌<◌, ◌==◌, List, [], ◌∷◌, Bool, true, false, nat_lt, length, take, drop, slice_get, refl, ap, sym, subst, arith, Option, None, Some, Result, Ok, Err, if◌then◌else◌, ◌&&◌, ◌||◌, not, option_map}
-use Rattle.std.proofs.Math.Nat.{mod-lt}
-use Rattle.std.proofs.lemmas.Option.{slice_get-get_or, slice_get_within}
+use Rattle.std.proofs.lemmas.Option.{slice_get-get_or}
 use Rattle.tw_line.specs.Cut.{Cut}
 use Rattle.tw_host.specs.ActionView.{ActionView, AcceptLine, Cancel, EndOfFile, Repaint, Complete, NoAction}
 use Rattle.tw_host.specs.CandidateView.{CandidateView, completed_by}
@@ -13,7 +12,8 @@ use Rattle.tw_session.specs.Outcomes.{is_over}
 use Rattle.tw_session.specs.Search.{search_left_in, search_left}
 use Rattle.tw_session.specs.Steps.{apply, apply_if}
 use Rattle.tw_key_parts.specs.KeyRules.{KeyRules, Edited}
-use Rattle.tw_prompt_host.specs.Menu.{menu_after, offered, open_if, stepped, asks, is_completing, is_still, menu_begun, step_of_menu, turn_line, turn_unless, turned}
+use Rattle.tw_prompt_host.specs.Menu.{menu_after, offered, open_if, chosen_at, asks, is_completing, is_still, menu_begun, turn_line, turn_unless, turned}
+use Rattle.tw_prompt_host.specs.MenuKeys.{menu_walked_by}
 use Rattle.tw_prompt_host.specs.MenuLayout.{Shown}
 use Rattle.tw_prompt_host.specs.PromptRules.{Prompted, found, prompt_rules, Answer, accepting_at, answered, completing, edit_at, fails_at, judged, turn_at}
 use Rattle.tw_prompt_host.specs.declared.menu.Menu.{Menu}
@@ -110,14 +110,9 @@ module _ (s : EditState) (going : is_over s.mode ≡ false) where
       subst (λ t. Leads menu (completed_from (offered menu (other t.cut)) t t.cycle)) (sym (left_still_in s s.mode still))
       (subst (λ cycle. Leads menu (completed_from (offered menu (other s.cut)) s cycle)) (sym none) turned)
 
--- a step on or back leads to one of the candidates
-pub step_stays : (back : Bool) (m : Shown) → m.chosen < length m.candidates → 1 < length m.candidates → (stepped back m).chosen < length m.candidates
-step_stays false m there more = mod-lt (m.chosen + 1) (omega (arith, more))
-step_stays true m there more = by (m.chosen == 0) refl
-  where
-    by : (b : Bool) → (m.chosen == 0) ≡ b → (if b then length m.candidates - 1 else m.chosen - 1) < length m.candidates
-    by true first = omega (arith, more)
-    by false first = omega (arith, there)
+-- a walk leads to one of the candidates
+pub walk_stays : (index : ℕ) (m : Shown) → 1 < length m.candidates → (chosen_at index m).chosen < length m.candidates
+walk_stays index m more = omega (arith, more)
 
 -- ---- other actions
 
@@ -280,23 +275,21 @@ module _ {V S K : Type 0} (keys : KeyRules S K) (rules : HostRules V) where
           ready = subst IsReady same ready;
         }
 
-    stepped_turns : (x : Shown) (turn : Menu) → v.going.menu ≡ Open x → (back : Bool) → Some (Open (stepped back x)) ≡ Some turn → Turns turn
-    stepped_turns x turn is back leads =
+    walk_turns : (x : Shown) (turn : Menu) → v.going.menu ≡ Open x → (index : ℕ) → Some (Open (chosen_at index x)) ≡ Some turn → Turns turn
+    walk_turns x turn is index leads =
         let marked = subst (λ m. TellsLine m s) is told_line in
         let quiet = subst (λ m. IsQuiet m v.going.searching v.going.comes_back) is fits.quiet in
-        let low = slice_get_within x.candidates x.chosen marked.candidate marked.there in
-        let to : Open (stepped back x) ≡ turn = cc in
-        subst Turns to (record { none = marked.none; still = quiet.0; ready = (marked.more, step_stays back x low marked.more) })
+        let to : Open (chosen_at index x) ≡ turn = cc in
+        subst Turns to (record { none = marked.none; still = quiet.0; ready = (marked.more, walk_stays index x marked.more) })
 
-    open_turns : (x : Shown) (back completing : Bool) (turn : Menu) → v.going.menu ≡ Open x → step_of_menu back completing x ≡ Some turn → Turns turn
-    open_turns x true completing turn is leads = stepped_turns x turn is true leads
-    open_turns x false true turn is leads = stepped_turns x turn is false leads
-    open_turns x false false turn is leads = absurd (let none : None ≡ Some turn = leads in cc)
+    open_turns : (x : Shown) (index : Option ℕ) (turn : Menu) → v.going.menu ≡ Open x → option_map (λ index. Open (chosen_at index x)) index ≡ Some turn → Turns turn
+    open_turns x (Some index) turn is leads = walk_turns x turn is index leads
+    open_turns x None turn is leads = absurd (let none : None ≡ Some turn = leads in cc)
 
     turns_at : (m turn : Menu) → v.going.menu ≡ m
-        → turned (option_map (λ candidates. menu_begun candidates cut) (if asks v.going.searching m (action_of e) then Some (found keys rules v cut) else None)) e (action_of e) m ≡ Some turn
+        → turned v.style (option_map (λ candidates. menu_begun candidates cut) (if asks v.going.searching m (action_of e) then Some (found keys rules v cut) else None)) e m ≡ Some turn
         → Turns turn
-    turns_at (Open x) turn is leads = open_turns x _ _ turn is leads
+    turns_at (Open x) turn is leads = open_turns x (menu_walked_by v.style e x) turn is leads
     turns_at m turn is begun = begun_turns m turn _ _ is refl begun
 
     turned_to : (turn : Menu) (rcut : Cut) (value : V) (accept : Verdict) (lines fails : Bool) → Turns turn

@@ -35,7 +35,7 @@ use Rattle.tw_ansi.proofs.KnownTerminals.{batch_in}
 use Rattle.tw_input.specs.EventView.{Key, Resized, Paste, Wake}
 use Rattle.tw_device.specs.JoinedLaws.{deeds_then, told_then}
 use Rattle.tw_device.specs.Steps as step
-use Rattle.tw_device.specs.Steps.{Step, IsInTime, batches_in, events_in}
+use Rattle.tw_device.specs.Steps.{Step, IsDueBy, IsInTime, batches_in, events_in}
 use Rattle.tw_device.proofs.InTimeLemmas.{batches_then}
 use Rattle.std.specs.List.{AllByRecursion}
 use Rattle.laws_screens.proofs.SizedBatchLemmas.{sized_are}
@@ -306,7 +306,7 @@ module _ {V : Type 0} (rules : HostRules V) where
     abbrev SendsFrom : List Step → List EventView → Type 0
     SendsFrom steps events = (cleared : Bool) (s : Progress V) (old new : AnsiTerminal W) (end : List Batch)
         → s.taken ≡ (terminal_state old).batches ++ clearing cleared → old.sent.encoder.cols ≡ s.size.cols
-        → IsDone (Does contents) (deeds_of steps) old new → IsInTime (λ seen. (run rules seen s).taken) (terminal_state old).batches steps
+        → IsDone (Does contents) (deeds_of steps) old new → IsInTime (IsDueBy (λ seen. (run rules seen s).taken)) (terminal_state old).batches steps
         → IsAllTaken (run rules events s) end new
         → SendsStations s.mark (stations_from rules events cleared s) (run rules events s) end old new
 
@@ -357,7 +357,7 @@ module _ {V : Type 0} (rules : HostRules V) where
         let set = resized event s.size reached sized behind.1 sent.2 in
         let r : Ending V = run rules events (next k) in
         let stations : List (Station V) = stations_from rules events (clears k) (next k) in
-        let in_time_later : IsInTime (λ seen. (run rules seen (next k)).taken) (terminal_state sized).batches later = λ before after other at.
+        let in_time_later : IsInTime (IsDueBy (λ seen. (run rules seen (next k)).taken)) (terminal_state sized).batches later = λ before after other at.
         let here : List Step = first ++ step.Told event ∷ before in
         ap (λ l. l ++ batches_in before) (set.batches ∙ taken_first) ∙ append_assoc (terminal_state old).batches (batches_in first) (batches_in before)
         ∙ ap (λ l. (terminal_state old).batches ++ l) (sym (batches_then first (step.Told event ∷ before)))

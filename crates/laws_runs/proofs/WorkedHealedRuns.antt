@@ -33,7 +33,7 @@ use Rattle.tw_ansi.proofs.JoinedMarks.{characters_join}
 use Rattle.tw_device.specs.Deeds.{Called, Sized}
 use Rattle.tw_device.specs.Live.{fresh_frame, taken_over}
 use Rattle.tw_device.specs.Steps as step
-use Rattle.tw_device.specs.Steps.{Step, IsInTime}
+use Rattle.tw_device.specs.Steps.{Step, IsDueBy, IsInTime}
 use Rattle.tw_device.proofs.InTimeLemmas.{in_time_silent}
 use Rattle.tw_device.specs.Terminal.{terminal_state}
 use Rattle.tw_device.specs.declared.reading.Answer.TheVariants.{Cancelled}
@@ -98,14 +98,14 @@ module _ (it : AnsiTerminal Wrote) where
   abbrev due : List EventView → List EventView → List Batch
   due first seen = taken_over rules (fresh_frame prompt [] (terminal_state (old it))) (first ++ seen)
 
-  in_time : IsInTime (due []) [] steps
+  in_time : IsInTime (IsDueBy (due [])) [] steps
   unfolding worked_runs
   in_time =
       past (due []) [] (step.Took (batch 0) ∷ []) _ refl (told (due []) (batch 0 ∷ []) (event 0) _ refl
       (past (due (event 0 ∷ [])) (batch 0 ∷ []) (step.Took (batch 1) ∷ []) _ refl (told (due (event 0 ∷ [])) (batch 0 ∷ batch 1 ∷ []) (event 1) _ refl
       (past (due (event 0 ∷ event 1 ∷ [])) (batch 0 ∷ batch 1 ∷ []) (step.Took (batch 2) ∷ []) _ refl (told (due (event 0 ∷ event 1 ∷ [])) (batch 0 ∷ batch 1 ∷ batch 2 ∷ []) (event 2) _ refl
       (past (due (event 0 ∷ event 1 ∷ event 2 ∷ [])) (batch 0 ∷ batch 1 ∷ batch 2 ∷ []) (step.Took (batch 3) ∷ step.Took (batch 4) ∷ []) _ refl (told (due (event 0 ∷ event 1 ∷ event 2 ∷ [])) (batch 0 ∷ batch 1 ∷ batch 2 ∷ batch 3 ∷ batch 4 ∷ []) (event 3) _ refl
-      (in_time_silent (due events) (batch 0 ∷ batch 1 ∷ batch 2 ∷ batch 3 ∷ batch 4 ∷ []) (step.Took (batch 5) ∷ step.Took (batch 6) ∷ step.Flushed ∷ []) refl))))))))
+      (in_time_silent (IsDueBy (due events)) (batch 0 ∷ batch 1 ∷ batch 2 ∷ batch 3 ∷ batch 4 ∷ []) (step.Took (batch 5) ∷ step.Took (batch 6) ∷ step.Flushed ∷ []) refl))))))))
 
   reading : IsSizedReading rules Some prompt [] (old it) new events (63 ∷ [])
   unfolding worked_runs

@@ -1,6 +1,6 @@
 -- What the worked runs share: plain rules, a line, its run from any frame, and a terminal over a writer that keeps its
 -- bytes.
-use Rattle.std.proofs.Common.{ℕ, List, [], ◌∷◌, ◌++◌, ◌≡◌, ap, subst, false, refl, sym, Some, codes, get_or, append-nil, arith}
+use Rattle.std.proofs.Common.{ℕ, List, [], ◌∷◌, ◌++◌, ◌≡◌, ◌∙◌, ap, subst, false, refl, sym, Some, codes, get_or, append-nil, arith}
 use Rattle.std.specs.Fmt.{digits}
 use Rattle.unicode_segmentation.proofs.Computing.{unicode_segmentation}
 use Rattle.unicode_width.proofs.Computing.{unicode_width}
@@ -27,7 +27,7 @@ use Rattle.tw_lineedit.specs.Stations.{Station, stations_of}
 use Rattle.tw_ansi.specs.Encoding.{first_known, sent_batch}
 use Rattle.tw_ansi.specs.EcmaTexts.{is_sent}
 use Rattle.tw_device.specs.Deeds.{Called, Sized, Does}
-use Rattle.tw_device.specs.Steps.{Step, Told, IsInTime, batches_in, events_in}
+use Rattle.tw_device.specs.Steps.{Step, Told, IsDueBy, IsInTime, batches_in, events_in}
 use Rattle.tw_device.proofs.InTimeLemmas.{in_time_first, in_time_silent, in_time_then}
 use Rattle.tw_device.specs.Live.{fresh_frame, run_over}
 use Rattle.tw_device.specs.Terminal.{terminal_state}
@@ -112,14 +112,14 @@ pub flushes : (t : AnsiTerminal Wrote) → Does Some t (flushed_now t) (Called O
 flushes t = record { bytes = sym (append-nil t.writer); known = refl; batches = sym (append-nil t.sent.batches); failures = omega arith }
 
 -- steps without an event before others in time, and an event in time
-pub past : (due : List EventView → List Batch) (taken : List Batch) (xs zs : List Step) → events_in xs ≡ [] → IsInTime due (taken ++ batches_in xs) zs → IsInTime due taken (xs ++ zs)
-past due taken xs zs none later = in_time_then due due taken xs zs (in_time_silent due taken xs none) later (λ seen. ap (λ l. due (l ++ seen)) (sym none))
+pub past : (due : List EventView → List Batch) (taken : List Batch) (xs zs : List Step) → events_in xs ≡ [] → IsInTime (IsDueBy due) (taken ++ batches_in xs) zs → IsInTime (IsDueBy due) taken (xs ++ zs)
+past due taken xs zs none later = in_time_then (IsDueBy due) (IsDueBy due) taken xs zs (in_time_silent (IsDueBy due) taken xs none) later (λ seen batches is. is ∙ ap (λ l. due (l ++ seen)) (sym none))
 
-pub told : (due : List EventView → List Batch) (taken : List Batch) (event : EventView) (zs : List Step) → taken ≡ due [] → IsInTime (λ seen. due (event ∷ seen)) taken zs
-    → IsInTime due taken (Told event ∷ zs)
+pub told : (due : List EventView → List Batch) (taken : List Batch) (event : EventView) (zs : List Step) → taken ≡ due [] → IsInTime (IsDueBy (λ seen. due (event ∷ seen))) taken zs
+    → IsInTime (IsDueBy due) taken (Told event ∷ zs)
 told due taken event zs now later =
-    in_time_then due (λ seen. due (event ∷ seen)) taken (Told event ∷ []) zs (in_time_first due taken event now)
-    (subst (λ all. IsInTime (λ seen. due (event ∷ seen)) all zs) (sym (append-nil taken)) later) (λ seen. refl)
+    in_time_then (IsDueBy due) (IsDueBy (λ seen. due (event ∷ seen))) taken (Told event ∷ []) zs (in_time_first (IsDueBy due) taken event now)
+    (subst (λ all. IsInTime (IsDueBy (λ seen. due (event ∷ seen))) all zs) (sym (append-nil taken)) later) (λ seen batches is. is)
 
 -- ---- a run of plain rules over any such terminal, a byte written before, of four rows of five columns
 

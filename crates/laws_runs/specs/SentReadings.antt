@@ -10,7 +10,7 @@ use Rattle.tw_lineedit.specs.Run.{run_of}
 use Rattle.tw_ansi.specs.EcmaPaintings.{sent_batches}
 use Rattle.tw_device.specs.Deeds.{Does, IsDone, deeds_of, sizes_in}
 use Rattle.tw_device.specs.Live.{IsRead, fresh_frame, taken_over}
-use Rattle.tw_device.specs.Steps.{Step, IsInTime, state_in, events_in}
+use Rattle.tw_device.specs.Steps.{Step, IsDueBy, IsInTime, state_in, events_in}
 use Rattle.tw_device.specs.Terminal.{terminal_state}
 use Rattle.tw_device.specs.declared.reading.Answer.{Answer}
 use Rattle.tw_device.specs.declared.terminal.AnsiTerminal.{AnsiTerminal}
@@ -82,7 +82,7 @@ module _ {V W : Type 0} (rules : HostRules V) (contents : W → Option (List ℕ
   -- The events tell whatever sizes they do, in time; the columns were known at the beginning.
   pub record IsSizedReading (prompt : List ℕ) (value : V) (old new : AnsiTerminal W) (events : List EventView) (held : List ℕ) : Type 0 where
     pub reading : IsReadBy rules contents prompt value old new events held
-    pub in_time : IsInTime (taken_over rules (fresh_frame prompt value (terminal_state old))) (terminal_state old).batches reading.steps
+    pub in_time : IsInTime (IsDueBy (taken_over rules (fresh_frame prompt value (terminal_state old)))) (terminal_state old).batches reading.steps
     pub cols : old.sent.encoder.cols ≡ old.size.cols
 
   -- What it has written is what was there, and then the batches of its run, each sent for the columns of its station;

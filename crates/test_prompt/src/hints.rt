@@ -30,7 +30,7 @@ remember (c d; type (c\nkey Enter; ends {}(c\r\n{}( is open => (c; yes
 remember copyist a; menu 80 4 copyist copying; type copy\nkey Tab\nkey Tab; ends {}copyist\r\n{}{bold}copyist{}  copying => copyist; yes
 
 // and no key takes one that is not shown
-remember copyist a; menu 80 4 copyist copying; type copy\nkey Tab\nkey Tab\nkey Right\nkey Enter => copyist
+remember copyist a; menu 80 4 copyist copying; type copy\nkey Tab\nkey Tab\nkey End\nkey Enter => copyist
 remember (c d; type (c\nkey Enter\nkey Right => (c
 
 // in the row of the cursor, and not in its last column

@@ -35,6 +35,8 @@ mod readline;
 #[cfg(test)]
 mod recent;
 #[cfg(test)]
+mod redo;
+#[cfg(test)]
 mod row_cells;
 #[cfg(test)]
 mod row_keys;

@@ -67,17 +67,23 @@ fn shown_text(alloc: Global, terminal: &ScriptTerminal) -> Result<String, Fail> 
     Ok(painted.replace(alloc, half.as_str(), "half")?)
 }
 
-/// Returns the events of a script, in which `key S-Tab` is a key too.
+/// Returns the key of a line that scripts have not.
+fn other_key(line: &str) -> Option<KeyEvent> {
+    let (key, modifiers) = match line {
+        "key S-Tab" => (KeyCode::Tab, Modifiers::SHIFT),
+        "key C-Delete" => (KeyCode::Delete, Modifiers::CTRL),
+        _ => return None,
+    };
+    Some(KeyEvent { key, modifiers })
+}
+
+/// Returns the events of a script, in which `key S-Tab` and `key C-Delete` are keys too.
 fn events_of(alloc: Global, script: &str) -> Result<Vec<InputEvent>, Fail> {
     let mut events = Vec::new(alloc);
     for line in script.lines() {
-        if line == "key S-Tab" {
-            events.push(InputEvent::Key(KeyEvent {
-                key: KeyCode::Tab,
-                modifiers: Modifiers::SHIFT,
-            }))?;
-        } else {
-            events.append(&mut script_events(alloc, line)?)?;
+        match other_key(line) {
+            Some(key) => events.push(InputEvent::Key(key))?,
+            None => events.append(&mut script_events(alloc, line)?)?,
         }
     }
     Ok(events)

@@ -40,6 +40,10 @@ type mine\nkey C-R\ntype co\nkey C-W\nkey End\nkey C-Y\nkey Enter => copy a
 // Escape takes the line that a search found
 type mine\nkey C-R\ntype op\nkey Escape\ntype X\nkey Enter => cXopy a
 
+// a search without a pattern takes that of the search before
+remember b; remember zz; key C-R\ntype op\nkey Escape\nkey Down\nkey Down\nkey Down\nkey C-R\nkey C-R\nkey Enter => copy a
+remember b; remember zz; key C-R\ntype op\nkey Escape\nkey Down\nkey Down\nkey Down\nkey C-R\nkey C-R\ntype y\nkey Enter => copy a
+
 // keys do what readline says
 type ab cd\nkey Left\nkey C-U\nkey Enter => d
 type abc\nkey C-A\nkey C-D\nkey Enter => bc

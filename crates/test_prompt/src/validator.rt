@@ -26,9 +26,9 @@ rows . ; type a) b\nkey Enter\nkey Enter\nkey Enter => a) b
 rows . ; type f(\nkey Enter\ntype x]\nkey Enter; ends ] closes nothing => f(\nx]; yes
 
 // while a menu is open the reason stands in its place
-menu 80 4 f(a f(b; type f(\nkey Tab\nkey Enter; ends ( is open => f(a; yes
-menu 80 4 f(a f(b; type f(\nkey Tab\nkey Enter\nkey Tab; ends f(b\r\n{}f(a  {bold}f(b{} => f(b; yes
-menu 80 4 a)b a)c; rows . ; type a)\nkey Tab\nkey Enter; ends ) closes nothing => a)b; yes
+menu 80 4 f(a f(b; type f(\nkey Tab\nkey Enter; ends f(a => f(a; yes
+menu 80 4 f(a f(b; type f(\nkey Tab\nkey Enter\nkey Enter; ends ( is open => f(a; yes
+menu 80 4 a)b a)c; rows . ; type a)\nkey Tab\nkey Enter\nkey Enter; ends ) closes nothing => a)b; yes
 
 // a key of the parts ends what is said of the line
 type f(x y\nkey Enter\nkey A-t; ends y f(x => y f(x; yes

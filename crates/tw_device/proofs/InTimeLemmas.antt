@@ -12,7 +12,7 @@ use Rattle.tw_terminal.specs.declared.terminal.TerminalFault.{TerminalFault}
 use Rattle.tw_device.specs.declared.keys.SourceState.{SourceState}
 use Rattle.tw_device.specs.declared.keys.SourceState.TheVariants.{Going}
 use Rattle.tw_device.specs.JoinedLaws.{told_then}
-use Rattle.tw_device.specs.Steps.{Step, Took, Refused, Sent, Flushed, Waited, Told, Ended, Failed, Seen, NotesCalls, Asks, IsInTime, GoesInTime, IsCalledOn, Goes, GoesPromptly, answer_step, batches_in, is_call, is_lead, seen_at, source_after, state_from, state_in, events_in}
+use Rattle.tw_device.specs.Steps.{Step, Took, Refused, Sent, Flushed, Waited, Told, Ended, Failed, Seen, NotesCalls, Asks, IsInTime, GoesInTime, IsCalledOn, Goes, answer_step, batches_in, is_call, is_lead, seen_at, source_after, state_from, state_in, events_in}
 use Rattle.tw_device.specs.Told.{answer_events}
 use Rattle.tw_device.proofs.JoinedLemmas.{batches_after, told_by}
 
@@ -109,25 +109,26 @@ never_told steps before after event none is =
     absurd (omega (arith, count, zero))
 
 -- steps that are in time, and then others, for which what is due is the rest
-pub in_time_then : (due rest : List EventView → List Batch) (taken : List Batch) (xs zs : List Step) → IsInTime due taken xs → IsInTime rest (taken ++ batches_in xs) zs
-    → ((seen : List EventView) → rest seen ≡ due (events_in xs ++ seen)) → IsInTime due taken (xs ++ zs)
-in_time_then due rest taken xs zs first later are before after event is =
+pub in_time_then : (Due Rest : List EventView → List Batch → Type 0) (taken : List Batch) (xs zs : List Step) → IsInTime Due taken xs → IsInTime Rest (taken ++ batches_in xs) zs
+    → ((seen : List EventView) (batches : List Batch) → Rest seen batches → Due (events_in xs ++ seen) batches) → IsInTime Due taken (xs ++ zs)
+in_time_then Due Rest taken xs zs first later are before after event is =
     elim (step_in xs zs before after (Told event) is) [
       | inl at ↦ first before at.0 event at.1
       | inr at ↦
-          ap (λ l. taken ++ batches_in l) at.1 ∙ ap (λ l. taken ++ l) (batches_then xs at.0) ∙ sym (append_assoc taken (batches_in xs) (batches_in at.0))
-          ∙ later at.0 after event at.2 ∙ are (events_in at.0)
-          ∙ ap due (sym (ap events_in at.1 ∙ told_then xs at.0))
+          let here : taken ++ batches_in before ≡ (taken ++ batches_in xs) ++ batches_in at.0 =
+          ap (λ l. taken ++ batches_in l) at.1 ∙ ap (λ l. taken ++ l) (batches_then xs at.0) ∙ sym (append_assoc taken (batches_in xs) (batches_in at.0)) in
+          subst (λ batches. Due (events_in before) batches) (sym here) (subst (λ events. Due events ((taken ++ batches_in xs) ++ batches_in at.0)) (sym (ap events_in at.1 ∙ told_then xs at.0))
+          (are (events_in at.0) _ (later at.0 after event at.2)))
     ]
 
 -- steps that tell nothing
-pub in_time_silent : (due : List EventView → List Batch) (taken : List Batch) (steps : List Step) → events_in steps ≡ [] → IsInTime due taken steps
-in_time_silent due taken steps none before after event is = never_told steps before after event none is
+pub in_time_silent : (Due : List EventView → List Batch → Type 0) (taken : List Batch) (steps : List Step) → events_in steps ≡ [] → IsInTime Due taken steps
+in_time_silent Due taken steps none before after event is = never_told steps before after event none is
 
 -- the first event, where what is due at first is taken
-pub in_time_first : (due : List EventView → List Batch) (taken : List Batch) (event : EventView) → taken ≡ due [] → IsInTime due taken (Told event ∷ [])
-in_time_first due taken event now [] after other is = append-nil taken ∙ now
-in_time_first due taken event now (step ∷ before) after other is =
+pub in_time_first : (Due : List EventView → List Batch → Type 0) (taken : List Batch) (event : EventView) → Due [] taken → IsInTime Due taken (Told event ∷ [])
+in_time_first Due taken event now [] after other is = subst (λ batches. Due [] batches) (sym (append-nil taken)) now
+in_time_first Due taken event now (step ∷ before) after other is =
     let all : length (Told event ∷ []) ≡ length (step ∷ (before ++ Told other ∷ after)) = ap length is in
     let some : length (before ++ Told other ∷ after) ≡ length before + length (Told other ∷ after) = length-append before (Told other ∷ after) in
     absurd (omega (arith, all, some))
@@ -135,40 +136,40 @@ in_time_first due taken event now (step ∷ before) after other is =
 -- ---- what is seen
 
 -- some steps, and then others
-pub goes_then : (due rest : List EventView → List Batch) (old mid new : Seen) (first : GoesInTime due old mid) → GoesInTime rest mid new
-    → ((seen : List EventView) → rest seen ≡ due (events_in first.steps ++ seen)) → GoesInTime due old new
-goes_then due rest old mid new first later are = record {
+pub goes_then : (Due Rest : List EventView → List Batch → Type 0) (old mid new : Seen) (first : GoesInTime Due old mid) → GoesInTime Rest mid new
+    → ((seen : List EventView) (batches : List Batch) → Rest seen batches → Due (events_in first.steps ++ seen) batches) → GoesInTime Due old new
+goes_then Due Rest old mid new first later are = record {
   steps = first.steps ++ later.steps;
   log = later.log ∙ ap (λ l. l ++ later.steps) first.log ∙ append_assoc old.log first.steps later.steps;
   batches = later.batches ∙ ap (λ l. l ++ batches_in later.steps) first.batches ∙ append_assoc old.terminal.batches (batches_in first.steps) (batches_in later.steps)
       ∙ ap (λ l. old.terminal.batches ++ l) (sym (batches_then first.steps later.steps));
-  in_time = in_time_then due rest old.terminal.batches first.steps later.steps first.in_time (subst (λ taken. IsInTime rest taken later.steps) first.batches later.in_time) are;
+  in_time = in_time_then Due Rest old.terminal.batches first.steps later.steps first.in_time (subst (λ taken. IsInTime Rest taken later.steps) first.batches later.in_time) are;
 }
 
 -- nothing was done
-pub goes_nowhere : (due : List EventView → List Batch) (seen : Seen) → GoesInTime due seen seen
-goes_nowhere due seen = record {
+pub goes_nowhere : (Due : List EventView → List Batch → Type 0) (seen : Seen) → GoesInTime Due seen seen
+goes_nowhere Due seen = record {
   steps = [];
   log = sym (append-nil seen.log);
   batches = sym (append-nil seen.terminal.batches);
-  in_time = in_time_silent due seen.terminal.batches [] refl;
+  in_time = in_time_silent Due seen.terminal.batches [] refl;
 }
 
 -- calls
-pub calls_go : (due : List EventView → List Batch) (old new : Seen) → NotesCalls old new → GoesInTime due old new
-calls_go due old new notes =
-    record { steps = notes.steps; log = notes.log; batches = notes.batches; in_time = in_time_silent due old.terminal.batches notes.steps (calls_tell notes.steps notes.calls) }
+pub calls_go : (Due : List EventView → List Batch → Type 0) (old new : Seen) → NotesCalls old new → GoesInTime Due old new
+calls_go Due old new notes =
+    record { steps = notes.steps; log = notes.log; batches = notes.batches; in_time = in_time_silent Due old.terminal.batches notes.steps (calls_tell notes.steps notes.calls) }
 
 -- an answer: an event comes where all that is due at first is taken
-pub asks_go : (due : List EventView → List Batch) (answer : Result (Option InputEvent) TerminalFault) (old new : Seen) → Asks answer old new
-    → old.terminal.batches ≡ due [] → GoesInTime due old new
-asks_go due answer old new asks now = record {
+pub asks_go : (Due : List EventView → List Batch → Type 0) (answer : Result (Option InputEvent) TerminalFault) (old new : Seen) → Asks answer old new
+    → Due [] old.terminal.batches → GoesInTime Due old new
+asks_go Due answer old new asks now = record {
   steps = asks.lead ++ answer_step answer ∷ [];
   log = asks.log;
   batches = ap (λ (t : TerminalState). t.batches) asks.terminal ∙ batches_after answer old.terminal
       ∙ sym (ap (λ l. old.terminal.batches ++ l) (lead_takes asks.lead asks.leads answer) ∙ append-nil old.terminal.batches);
-  in_time = in_time_then due due old.terminal.batches asks.lead (answer_step answer ∷ []) (in_time_silent due old.terminal.batches asks.lead none) (told_last answer)
-      (λ seen. ap (λ l. due (l ++ seen)) (sym none));
+  in_time = in_time_then Due Due old.terminal.batches asks.lead (answer_step answer ∷ []) (in_time_silent Due old.terminal.batches asks.lead none) (told_last answer)
+      (λ seen batches is-due. subst (λ l. Due (l ++ seen) batches) (sym none) is-due);
 }
   where
     none : events_in asks.lead ≡ []
@@ -177,10 +178,10 @@ asks_go due answer old new asks now = record {
     is : old.terminal.batches ++ batches_in asks.lead ≡ old.terminal.batches
     is = ap (λ l. old.terminal.batches ++ l) (lead_takes_none asks.lead asks.leads) ∙ append-nil old.terminal.batches
 
-    told_last : (answer : Result (Option InputEvent) TerminalFault) → IsInTime due (old.terminal.batches ++ batches_in asks.lead) (answer_step answer ∷ [])
-    told_last (Ok (Some event)) = in_time_first due (old.terminal.batches ++ batches_in asks.lead) (event_view event) (is ∙ now)
-    told_last (Ok None) = in_time_silent due (old.terminal.batches ++ batches_in asks.lead) (Ended ∷ []) refl
-    told_last (Err fault) = in_time_silent due (old.terminal.batches ++ batches_in asks.lead) (Failed fault ∷ []) refl
+    told_last : (answer : Result (Option InputEvent) TerminalFault) → IsInTime Due (old.terminal.batches ++ batches_in asks.lead) (answer_step answer ∷ [])
+    told_last (Ok (Some event)) = in_time_first Due (old.terminal.batches ++ batches_in asks.lead) (event_view event) (subst (λ batches. Due [] batches) (sym is) now)
+    told_last (Ok None) = in_time_silent Due (old.terminal.batches ++ batches_in asks.lead) (Ended ∷ []) refl
+    told_last (Err fault) = in_time_silent Due (old.terminal.batches ++ batches_in asks.lead) (Failed fault ∷ []) refl
 
 -- ---- events and answers
 
@@ -201,7 +202,7 @@ answered_last answer old new asks =
     last (Err fault) state = refl
 
 -- the events up to then
-pub told_since : {due : List EventView → List Batch} (old new : Seen) (goes : GoesInTime due old new) → events_in new.log ≡ events_in old.log ++ events_in goes.steps
+pub told_since : {Due : List EventView → List Batch → Type 0} (old new : Seen) (goes : GoesInTime Due old new) → events_in new.log ≡ events_in old.log ++ events_in goes.steps
 told_since old new goes = ap events_in goes.log ∙ told_then old.log goes.steps
 
 -- calls tell nothing
@@ -238,49 +239,49 @@ module _ {D : Type 0} (state : D → TerminalState) (log : D → List Step) (Law
   at it = seen_at state log it
 
   -- nothing was done
-  pub goes_still : (due : List EventView → List Batch) (it : D) → Law it it → Goes state log Law due it it
-  goes_still due it law = record { in_time = goes_nowhere due (at it); prompt = λ was. was; law = law }
+  pub goes_still : (Due : List EventView → List Batch → Type 0) (it : D) → Law it it → Goes state log Law Due it it
+  goes_still Due it law = record { in_time = goes_nowhere Due (at it); prompt = λ was. was; law = law }
 
   -- the same devices
-  pub goes_between : (due : List EventView → List Batch) (old old-is new new-is : D) → old-is ≡ old → new ≡ new-is → Goes state log Law due old-is new-is → Goes state log Law due old new
-  goes_between due old old-is new new-is same-old same-new goes =
-      subst (λ it. Goes state log Law due old it) (sym same-new) (subst (λ it. Goes state log Law due it new-is) same-old goes)
+  pub goes_between : (Due : List EventView → List Batch → Type 0) (old old-is new new-is : D) → old-is ≡ old → new ≡ new-is → Goes state log Law Due old-is new-is → Goes state log Law Due old new
+  goes_between Due old old-is new new-is same-old same-new goes =
+      subst (λ it. Goes state log Law Due old it) (sym same-new) (subst (λ it. Goes state log Law Due it new-is) same-old goes)
 
   -- steps, and then others, for which what is due is the rest
-  pub goes_on : (due rest : List EventView → List Batch) (old mid new : D) → Goes state log Law due old mid → Goes state log Law rest mid new
-      → ((xs : List EventView) → events_in (log mid) ≡ events_in (log old) ++ xs → (seen : List EventView) → rest seen ≡ due (xs ++ seen))
-      → Goes state log Law due old new
-  goes_on due rest old mid new first later are = record {
-    in_time = goes_then due rest (at old) (at mid) (at new) first.in_time later.in_time (are (events_in first.in_time.steps) (told_since (at old) (at mid) first.in_time));
+  pub goes_on : (Due Rest : List EventView → List Batch → Type 0) (old mid new : D) → Goes state log Law Due old mid → Goes state log Law Rest mid new
+      → ((xs : List EventView) → events_in (log mid) ≡ events_in (log old) ++ xs → (seen : List EventView) (batches : List Batch) → Rest seen batches → Due (xs ++ seen) batches)
+      → Goes state log Law Due old new
+  goes_on Due Rest old mid new first later are = record {
+    in_time = goes_then Due Rest (at old) (at mid) (at new) first.in_time later.in_time (are (events_in first.in_time.steps) (told_since (at old) (at mid) first.in_time));
     prompt = λ was. later.prompt (first.prompt was);
     law = joins old mid new first.law later.law;
   }
 
   -- calls, and nothing else
-  pub goes_called : (due : List EventView → List Batch) (old new : D) → IsCalledOn state log Law old new → Goes state log Law due old new
-  goes_called due old new calls = record { in_time = calls_go due (at old) (at new) calls.notes; prompt = calls.notes.prompt; law = calls.law }
+  pub goes_called : (Due : List EventView → List Batch → Type 0) (old new : D) → IsCalledOn state log Law old new → Goes state log Law Due old new
+  goes_called Due old new calls = record { in_time = calls_go Due (at old) (at new) calls.notes; prompt = calls.notes.prompt; law = calls.law }
 
   -- calls before steps
-  pub goes_opened : (due rest : List EventView → List Batch) (old mid new : D) → IsCalledOn state log Law old mid → Goes state log Law rest mid new
-      → ((seen : List EventView) → rest seen ≡ due seen) → Goes state log Law due old new
-  goes_opened due rest old mid new calls later are =
-      goes_on due rest old mid new (goes_called due old mid calls) later
-      (λ xs told seen. are seen ∙ ap (λ l. due (l ++ seen)) (sym (append_cancel_left (events_in (log old)) xs [] (sym told ∙ told_calls (at old) (at mid) calls.notes ∙ sym (append-nil (events_in (log old)))))))
+  pub goes_opened : (Due Rest : List EventView → List Batch → Type 0) (old mid new : D) → IsCalledOn state log Law old mid → Goes state log Law Rest mid new
+      → ((seen : List EventView) (batches : List Batch) → Rest seen batches → Due seen batches) → Goes state log Law Due old new
+  goes_opened Due Rest old mid new calls later are =
+      goes_on Due Rest old mid new (goes_called Due old mid calls) later
+      (λ xs told seen batches is-due. subst (λ l. Due (l ++ seen) batches) (sym (append_cancel_left (events_in (log old)) xs [] (sym told ∙ told_calls (at old) (at mid) calls.notes ∙ sym (append-nil (events_in (log old)))))) (are seen batches is-due))
 
   -- and after them
-  pub goes_closed : (due : List EventView → List Batch) (old mid new : D) → Goes state log Law due old mid → IsCalledOn state log Law mid new → Goes state log Law due old new
-  goes_closed due old mid new first calls = record {
-    in_time = goes_then due (λ seen. due (events_in first.in_time.steps ++ seen)) (at old) (at mid) (at new) first.in_time
-        (calls_go (λ seen. due (events_in first.in_time.steps ++ seen)) (at mid) (at new) calls.notes) (λ seen. refl);
+  pub goes_closed : (Due : List EventView → List Batch → Type 0) (old mid new : D) → Goes state log Law Due old mid → IsCalledOn state log Law mid new → Goes state log Law Due old new
+  goes_closed Due old mid new first calls = record {
+    in_time = goes_then Due (λ seen. Due (events_in first.in_time.steps ++ seen)) (at old) (at mid) (at new) first.in_time
+        (calls_go (λ seen. Due (events_in first.in_time.steps ++ seen)) (at mid) (at new) calls.notes) (λ seen batches is-due. is-due);
     prompt = λ was. calls.notes.prompt (first.prompt was);
     law = joins old mid new first.law calls.law;
   }
 
   -- an answer, and then calls
-  pub goes_fed : (due : List EventView → List Batch) (answer : Result (Option InputEvent) TerminalFault) (old mid new : D) → Asks answer (at old) (at mid)
-      → Law old mid → IsCalledOn state log Law mid new → (state old).batches ≡ due [] → Goes state log Law due old new
-  goes_fed due answer old mid new asks law calls now =
-      goes_closed due old mid new (record { in_time = asks_go due answer (at old) (at mid) asks now; prompt = asks.prompt; law = law }) calls
+  pub goes_fed : (Due : List EventView → List Batch → Type 0) (answer : Result (Option InputEvent) TerminalFault) (old mid new : D) → Asks answer (at old) (at mid)
+      → Law old mid → IsCalledOn state log Law mid new → Due [] (state old).batches → Goes state log Law Due old new
+  goes_fed Due answer old mid new asks law calls now =
+      goes_closed Due old mid new (record { in_time = asks_go Due answer (at old) (at mid) asks now; prompt = asks.prompt; law = law }) calls
 
 module _ {D : Type 0} (state : D → TerminalState) (log : D → List Step) (Law : D → D → Type 0) (Follows : D → D → Call → Type 0)
     (call_notes : (old new : D) (call : Call) → Follows old new call → NotesCalls (seen_at state log old) (seen_at state log new))
@@ -306,15 +307,6 @@ module _ {D : Type 0} (state : D → TerminalState) (log : D → List Step) (Law
       → events_in (log new) ≡ events_in (log old) ++ answer_events answer
   told_feeding answer old mid new asks used = told_fed answer (seen_at state log old) (seen_at state log mid) (seen_at state log new) asks (called_on mid new used).notes
 
-  pub goes_feeding : (due : List EventView → List Batch) (answer : Result (Option InputEvent) TerminalFault) (old mid new : D) → Asks answer (seen_at state log old) (seen_at state log mid)
-      → Law old mid → IsUsed Follows mid new → (state old).batches ≡ due [] → Goes state log Law due old new
-  goes_feeding due answer old mid new asks law used now = goes_fed state log Law joins due answer old mid new asks law (called_on mid new used) now
-
-  -- the same where nothing is due
-  pub goes_by_calls : (old new : D) → IsUsed Follows old new → GoesPromptly state log Law old new
-  goes_by_calls old new used = let calls = called_on old new used in record { prompt = calls.notes.prompt; law = calls.law }
-
-  pub goes_by_feeding : (answer : Result (Option InputEvent) TerminalFault) (old mid new : D) → Asks answer (seen_at state log old) (seen_at state log mid)
-      → Law old mid → IsUsed Follows mid new → GoesPromptly state log Law old new
-  goes_by_feeding answer old mid new asks law used =
-      let calls = called_on mid new used in record { prompt = λ was. calls.notes.prompt (asks.prompt was); law = joins old mid new law calls.law }
+  pub goes_feeding : (Due : List EventView → List Batch → Type 0) (answer : Result (Option InputEvent) TerminalFault) (old mid new : D) → Asks answer (seen_at state log old) (seen_at state log mid)
+      → Law old mid → IsUsed Follows mid new → Due [] (state old).batches → Goes state log Law Due old new
+  goes_feeding Due answer old mid new asks law used now = goes_fed state log Law joins Due answer old mid new asks law (called_on mid new used) now

@@ -1,6 +1,5 @@
 pub mod CallLemmas
 pub mod DeedLemmas
-pub mod GoingLemmas
 pub mod HookedLemmas
 pub mod InTimeLemmas
 pub mod JoinedLemmas

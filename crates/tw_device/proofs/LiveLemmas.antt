@@ -3,6 +3,7 @@ use Rattle.std.proofs.Common.{◌≡◌, ◌≢◌, IfOk, IfErr, ℕ, List, [], 
 use Rattle.std.proofs.lemmas.Bool.{false≢true}
 use Rattle.std.proofs.lemmas.List.{append-nil, append_assoc, append_cancel_left}
 use Rattle.std.specs.declared.alloc.Global.{Global}
+use Rattle.tw_surface.specs.ChangeView.{Batch}
 use Rattle.tw_surface.specs.PaintingBatches.{clear_batch}
 use Rattle.tw_input.specs.EventView.{EventView, Key, Resized, Paste, Wake}
 use Rattle.tw_terminal.specs.TerminalState.{TerminalState, size_after, count_up}
@@ -23,9 +24,9 @@ use Rattle.tw_lineedit.specs.SessionView.{SessionView}
 use Rattle.tw_lineedit.specs.declared.Error.{Error}
 use Rattle.tw_lineedit.specs.declared.Error.TheVariants.{Memory, Terminal}
 use Rattle.tw_lineedit.proofs.FeedingLemmas.{open_goes_on}
-use Rattle.tw_device.specs.Live.{resized_frame, frame_of, Opens, WaitsAfter, ComesBy, FailsFrom, FailsBy, FailsOver, FailsTold, ReadsTold, run_over, IsRead, StopsOn, StopsFeeding, answer_from}
+use Rattle.tw_device.specs.Live.{taken_on, resized_frame, frame_of, Opens, WaitsAfter, ComesBy, FailsFrom, FailsBy, FailsOver, FailsTold, ReadsTold, run_over, IsRead, StopsOn, StopsFeeding, answer_from}
 use Rattle.tw_device.specs.Live as live
-use Rattle.tw_device.specs.Steps.{Step, state_in, events_in}
+use Rattle.tw_device.specs.Steps.{IsDueBy, Step, state_in, events_in}
 use Rattle.tw_device.specs.declared.keys.SourceState.{SourceState}
 use Rattle.tw_device.specs.declared.reading.Answer.{Answer}
 use Rattle.tw_device.specs.declared.reading.Stop.{Stop}
@@ -326,9 +327,9 @@ module _ {V : Type 0} (rules : HostRules V) (overrides : Overrides) where
 
   -- what is taken from there on
   pub taken_from : (old mid : List EventView) (f g : Frame V) → ComesBy rules overrides old mid f g → (xs : List EventView) → mid ≡ old ++ xs
-      → (seen : List EventView) → (run_on rules seen (progress_of g)).taken ≡ (run_on rules (xs ++ seen) (progress_of f)).taken
-  taken_from old mid f g (came, told, a) xs is seen =
-      ap (λ (end : Ending V). end.taken) (sym (a.run seen)) ∙ ap (λ (es : List EventView). (run_on rules (es ++ seen) (progress_of f)).taken) (append_cancel_left old came xs (sym told ∙ is))
+      → (seen : List EventView) (batches : List Batch) → IsDueBy (taken_on rules g) seen batches → IsDueBy (taken_on rules f) (xs ++ seen) batches
+  taken_from old mid f g (came, told, a) xs is seen batches due =
+      due ∙ ap (λ (end : Ending V). end.taken) (sym (a.run seen)) ∙ ap (λ (es : List EventView). (run_on rules (es ++ seen) (progress_of f)).taken) (append_cancel_left old came xs (sym told ∙ is))
 
   -- a line that was begun, fed and ended
 

@@ -130,17 +130,21 @@ pub record Asks (answer : Result (Option InputEvent) TerminalFault) (old new : S
   pub terminal : new.terminal ≡ terminal_after (answer_step answer) old.terminal
   pub prompt : IsPrompt old → IsPrompt new
 
--- Before each event the batches that were taken are those that are due after the events before it.
-abbrev pub IsInTime : (List EventView → List Batch) → List Batch → List Step → Type 0
-IsInTime due taken steps = (before after : List Step) (event : EventView) → steps ≡ before ++ Told event ∷ after
-    → taken ++ batches_in before ≡ due (events_in before)
+-- these batches are due after these events
+abbrev pub IsDueBy : (List EventView → List Batch) → List EventView → List Batch → Type 0
+IsDueBy due events batches = batches ≡ due events
+
+-- Before each event the batches that were taken are due after the events before it.
+abbrev pub IsInTime : (List EventView → List Batch → Type 0) → List Batch → List Step → Type 0
+IsInTime Due taken steps = (before after : List Step) (event : EventView) → steps ≡ before ++ Told event ∷ after
+    → Due (events_in before) (taken ++ batches_in before)
 
 -- Steps were noted since, in time.
-pub record GoesInTime (due : List EventView → List Batch) (old new : Seen) : Type 0 where
+pub record GoesInTime (Due : List EventView → List Batch → Type 0) (old new : Seen) : Type 0 where
   pub steps : List Step
   pub log : new.log ≡ old.log ++ steps
   pub batches : new.terminal.batches ≡ old.terminal.batches ++ batches_in steps
-  pub in_time : IsInTime due old.terminal.batches steps
+  pub in_time : IsInTime Due old.terminal.batches steps
 
 -- what is seen of a device of some kind
 abbrev pub seen_at : {D : Type 0} → (D → TerminalState) → (D → List Step) → D → Seen
@@ -152,13 +156,8 @@ module _ {D : Type 0} (state : D → TerminalState) (log : D → List Step) (Law
     pub notes : NotesCalls (seen_at state log old) (seen_at state log new)
     pub law : Law old new
 
-  -- Steps lead from the one to the other by the device's law, and nothing that was taken is unsent at a waiting.
-  pub record GoesPromptly (old new : D) : Type 0 where
-    pub prompt : IsPrompt (seen_at state log old) → IsPrompt (seen_at state log new)
-    pub law : Law old new
-
-  -- and so they do in time
-  pub record Goes (due : List EventView → List Batch) (old new : D) : Type 0 where
-    pub in_time : GoesInTime due (seen_at state log old) (seen_at state log new)
+  -- Steps lead from the one to the other in time, by the device's law, and nothing that was taken is unsent at a waiting.
+  pub record Goes (Due : List EventView → List Batch → Type 0) (old new : D) : Type 0 where
+    pub in_time : GoesInTime Due (seen_at state log old) (seen_at state log new)
     pub prompt : IsPrompt (seen_at state log old) → IsPrompt (seen_at state log new)
     pub law : Law old new

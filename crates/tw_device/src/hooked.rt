@@ -5,9 +5,9 @@ ghost use Rattle.tw_input.specs.EventView.{event_view};
 ghost use Rattle.tw_lineedit.specs.Frame.{across, frame};
 ghost use Rattle.tw_lineedit.specs.Lent.{KeepsTerminal};
 ghost use Rattle.tw_lineedit.specs.Outcomes.{is_open};
-ghost use Rattle.tw_device.specs.Hooked.{answer_for, EndsBy, EndsPrepared, FeedsAs, IsReadHooked, Prepares, ShowsTurn, TakesLine};
+ghost use Rattle.tw_device.specs.Hooked.{answer_for, EndsBy, FeedsAs, IsReadHooked, ShowsHandled, TakesLine, TakesOn, TakesOver};
 ghost use Rattle.tw_device.specs.Live.{fresh_frame};
-ghost use Rattle.tw_device.specs.Steps.{seen_at, GoesPromptly};
+ghost use Rattle.tw_device.specs.Steps.{seen_at, Goes, GoesInTime, IsPrompt};
 
 use crate::device::Device;
 use crate::hook::Hook;
@@ -36,7 +36,9 @@ fn before<T: Terminal, H: LineEditorHost, K: Hook<H>>(
     event: &InputEvent,
 ) -> Result<(), Error>
     ensures same { editor.new ≡ editor.old }
-    ensures prepared { K.prepares host.old host.new }
+    ensures changes { K.rules.changes host.old host.new }
+    ensures ok { OnOk result
+        (K.rules.is_asked editor.old.session.state.cut (event_view event.now) host.new) }
 {
     let (line, cursor) = editor.get_line_and_cursor();
     hook.before(host, line, cursor, event)
@@ -49,29 +51,31 @@ fn prepare<T: Terminal, H: LineEditorHost, K: Hook<H>>(
     hook: &mut K,
 ) -> Result<(), Error>
     ensures same { editor.new ≡ editor.old }
-    ensures prepared { K.prepares host.old host.new }
+    ensures changes { K.rules.changes host.old host.new }
+    ensures ok { OnOk result (K.rules.is_prepared editor.old.session.state.cut host.new) }
 {
     let (line, cursor) = editor.get_line_and_cursor();
     hook.prepare(host, line, cursor)
 }
 
-/// Paints an open line, below what the hook prints.
+/// Paints an open line, once its host is prepared, below what the hook prints.
 fn show<T: Terminal, H: LineEditorHost, K: Hook<H>>(
     editor: &mut LineEditor<'_, T>,
-    host: &H,
+    host: &mut H,
     hook: &mut K,
 ) -> Result<(), Error>
     requires { is_open editor.old.session.state.mode ≡ true }
     ensures terminal { KeepsTerminal T.follows editor.old.terminal editor.new.terminal }
     ensures ok { OnOk result (across T.state H.value
-        (ShowsTurn H.rules)
-        editor.old host.now editor.new host.now) }
+        (ShowsHandled H.rules H.value K.rules true) editor.old host.old editor.new host.new) }
 {
+    prepare(editor, host, hook)?;
     let text = hook.above()?;
-    if text.is_empty() {
+    let lines = text.as_str();
+    if lines.is_empty() {
         return editor.paint_line(host);
     }
-    editor.print_above(host, text.as_str())?;
+    editor.print_above(host, lines)?;
     Ok(())
 }
 
@@ -85,13 +89,12 @@ fn feed<T: Terminal, H: LineEditorHost, K: Hook<H>>(
     requires { is_open editor.old.session.state.mode ≡ true }
     ensures terminal { KeepsTerminal T.follows editor.old.terminal editor.new.terminal }
     ensures ok { IfOk result (λ stop. across T.state H.value
-        (FeedsAs H.rules H.OVERRIDES (Prepares H.value K.prepares) (event_view event.now) stop)
+        (FeedsAs H.rules H.OVERRIDES H.value K.rules (event_view event.now) stop)
         editor.old host.old editor.new host.new) }
 {
     before(editor, host, hook, event)?;
     match editor.handle_event(host, event) {
         Ok(LineStatus::Open) => {
-            prepare(editor, host, hook)?;
             show(editor, host, hook)?;
             Ok(None)
         }
@@ -112,12 +115,14 @@ fn take_events<D: Device, H: LineEditorHost, K: Hook<H>>(
 ) -> Result<End, Error>
     requires { is_open editor.old.session.state.mode ≡ true }
     ensures same_reference { editor.new.terminal.ghost_name ≡ editor.old.terminal.ghost_name }
-    ensures goes { GoesPromptly D.state D.log D.law editor.old.terminal.now editor.new.terminal.now }
     ensures ok { let before = frame D.state H.value editor.old host.old in
         let after = frame D.state H.value editor.new host.new in
-        IfOk result (λ stop. EndsBy H.rules H.OVERRIDES (Prepares H.value K.prepares) stop
+        IfOk result (λ stop. EndsBy H.rules H.OVERRIDES H.value K.rules stop
         (seen_at D.state D.log editor.old.terminal.now)
         (seen_at D.state D.log editor.new.terminal.now) before after) }
+    ensures goes { let before = frame D.state H.value editor.old host.old in
+        Goes D.state D.log D.law (TakesOn H.rules H.value K.rules before)
+        editor.old.terminal.now editor.new.terminal.now }
 {
     for _ in 0..u64::MAX {
         let Some(event) = ask(editor)? else {
@@ -141,25 +146,6 @@ fn answer_of(stop: End, line: Option<String>) -> Answer
     }
 }
 
-/// Lets the hook prepare a painted line, and takes its events. Returns what ended it.
-fn take_line<D: Device, H: LineEditorHost, K: Hook<H>>(
-    editor: &mut LineEditor<'_, D>,
-    host: &mut H,
-    hook: &mut K,
-) -> Result<End, Error>
-    requires { is_open editor.old.session.state.mode ≡ true }
-    ensures same_reference { editor.new.terminal.ghost_name ≡ editor.old.terminal.ghost_name }
-    ensures goes { GoesPromptly D.state D.log D.law editor.old.terminal.now editor.new.terminal.now }
-    ensures ok { let before = frame D.state H.value editor.old host.old in
-        let after = frame D.state H.value editor.new host.new in
-        IfOk result (λ stop. EndsPrepared H.rules H.OVERRIDES (Prepares H.value K.prepares) stop
-        (seen_at D.state D.log editor.old.terminal.now)
-        (seen_at D.state D.log editor.new.terminal.now) before after) }
-{
-    prepare(editor, host, hook)?;
-    take_events(editor, host, hook)
-}
-
 /// Takes the events of a painted line, and closes it. Returns what it answers.
 fn read_begun<D: Device, H: LineEditorHost, K: Hook<H>>(
     alloc: Global,
@@ -169,14 +155,16 @@ fn read_begun<D: Device, H: LineEditorHost, K: Hook<H>>(
 ) -> Result<Answer, Error>
     requires { is_open editor.old.session.state.mode ≡ true }
     ensures same_reference { editor.new.terminal.ghost_name ≡ editor.old.terminal.ghost_name }
-    ensures goes { GoesPromptly D.state D.log D.law editor.old.terminal.now editor.new.terminal.now }
     ensures ok { let before = frame D.state H.value editor.old host.old in
         let after = frame D.state H.value editor.new host.new in
-        IfOk result (TakesLine H.rules H.OVERRIDES (Prepares H.value K.prepares)
+        IfOk result (TakesLine H.rules H.OVERRIDES H.value K.rules
         (seen_at D.state D.log editor.old.terminal.now)
         (seen_at D.state D.log editor.new.terminal.now) before after) }
+    ensures goes { let before = frame D.state H.value editor.old host.old in
+        Goes D.state D.log D.law (TakesOn H.rules H.value K.rules before)
+        editor.old.terminal.now editor.new.terminal.now }
 {
-    match take_line(editor, host, hook) {
+    match take_events(editor, host, hook) {
         Ok(End::Input) => Ok(Answer::End(String::new(alloc))),
         Ok(End::Line) => Ok(answer_of(End::Line, finish(editor)?)),
         Ok(End::Source) => Ok(answer_of(End::Source, finish(editor)?)),
@@ -187,11 +175,34 @@ fn read_begun<D: Device, H: LineEditorHost, K: Hook<H>>(
     }
 }
 
-/// Reads a line with a new editor from a device, as `read_line_from` does, and lets a hook prepare the host: once the
-/// line is begun, before each event, and once the event is handled, if the line goes on, before it is painted. The
-/// answer, the batches, the screen's size and the host's value are those of the abstract editor's steps over exactly the
-/// events that the device told, with the values that the hook left (`ok`). What else the device did follows its own law,
-/// and all that was taken is sent before it waits (`goes`).
+/// Begins a line with a new editor, takes its events, and closes it.
+fn read_prepared<D: Device, H: LineEditorHost, K: Hook<H>>(
+    alloc: Global,
+    device: &mut D,
+    host: &mut H,
+    hook: &mut K,
+    prompt: &str,
+) -> Result<Answer, Error>
+    ensures ok { let begun = fresh_frame prompt.now (H.value host.old) (D.state device.old) in
+        IfOk result (IsReadHooked H.rules H.OVERRIDES H.value K.rules
+        (seen_at D.state D.log device.old) (seen_at D.state D.log device.new) begun
+        (H.value host.new)) }
+    ensures goes { let begun = fresh_frame prompt.now (H.value host.old) (D.state device.old) in
+        Goes D.state D.log D.law (TakesOver H.rules H.value K.rules begun)
+        device.old device.new }
+{
+    let mut editor = LineEditor::new(alloc, device)?;
+    editor.set_prompt(prompt)?;
+    prepare(&mut editor, host, hook)?;
+    begin(&mut editor, host)?;
+    read_begun(alloc, &mut editor, host, hook)
+}
+
+/// Reads a line with a new editor from a device, as `read_line_from` does, and lets a hook prepare the host: before each
+/// event, and before each painting of the line while it takes events. The answer, the batches, the screen's size and the
+/// host's value are those of the abstract editor's steps over exactly the events that the device told, with the values
+/// that the hook left (`ok`). The device tells each event when it has taken all batches of the steps before it (`log`).
+/// At each waiting all that was taken is sent (`prompt`), and what else the device did follows its own law (`law`).
 ///
 /// If a function of the hook, the device, the terminal or memory refuses, the line is closed on the screen, and what was
 /// typed of it is lost.
@@ -203,13 +214,15 @@ pub fn read_line_with<D: Device, H: LineEditorHost, K: Hook<H>>(
     prompt: &str,
 ) -> Result<Answer, Error>
     ensures ok { let begun = fresh_frame prompt.now (H.value host.old) (D.state device.old) in
-        IfOk result (IsReadHooked H.rules H.OVERRIDES (Prepares H.value K.prepares)
+        IfOk result (IsReadHooked H.rules H.OVERRIDES H.value K.rules
         (seen_at D.state D.log device.old) (seen_at D.state D.log device.new) begun
         (H.value host.new)) }
-    ensures goes { GoesPromptly D.state D.log D.law device.old device.new }
+    ensures log { let begun = fresh_frame prompt.now (H.value host.old) (D.state device.old) in
+        GoesInTime (TakesOver H.rules H.value K.rules begun) (seen_at D.state D.log device.old)
+        (seen_at D.state D.log device.new) }
+    ensures prompt { IsPrompt (seen_at D.state D.log device.old)
+        → IsPrompt (seen_at D.state D.log device.new) }
+    ensures law { D.law device.old device.new }
 {
-    let mut editor = LineEditor::new(alloc, device)?;
-    editor.set_prompt(prompt)?;
-    begin(&mut editor, host)?;
-    read_begun(alloc, &mut editor, host, hook)
+    read_prepared(alloc, device, host, hook, prompt)
 }

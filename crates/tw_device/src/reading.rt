@@ -8,7 +8,7 @@ ghost use Rattle.tw_lineedit.specs.Outcomes.{answer_at, is_open, outcome_of};
 ghost use Rattle.tw_lineedit.specs.Reading.{start, Reads};
 ghost use Rattle.tw_lineedit.specs.Run.{ending};
 ghost use Rattle.tw_device.specs.Live.{taken_on, taken_over, fresh_frame, ComesBy, FailsBy, IsToldAnswer, IsRefusedTold, IsRead, FailsToReadTold, StopsOn, StopsFeeding, answer_from};
-ghost use Rattle.tw_device.specs.Steps.{seen_at, state_in, events_in, Asks, Goes, GoesInTime, IsCalledOn, IsPrompt};
+ghost use Rattle.tw_device.specs.Steps.{seen_at, state_in, events_in, Asks, Goes, GoesInTime, IsCalledOn, IsDueBy, IsPrompt};
 
 use crate::device::Device;
 use std::alloc::Global;
@@ -94,7 +94,7 @@ fn take_event<D: Device, H: LineEditorHost>(
         IfErr result (FailsBy H.rules H.OVERRIDES (events_in (D.log editor.old.terminal.now))
         (events_in (D.log editor.new.terminal.now)) before after) }
     ensures goes { let before = frame D.state H.value editor.old host.old in
-        Goes D.state D.log D.law (taken_on H.rules before)
+        Goes D.state D.log D.law (IsDueBy (taken_on H.rules before))
         editor.old.terminal.now editor.new.terminal.now }
 {
     match ask(editor) {
@@ -127,7 +127,7 @@ fn take_events<D: Device, H: LineEditorHost>(
         IfErr result (FailsBy H.rules H.OVERRIDES (events_in (D.log editor.old.terminal.now))
         (events_in (D.log editor.new.terminal.now)) before after) }
     ensures goes { let before = frame D.state H.value editor.old host.old in
-        Goes D.state D.log D.law (taken_on H.rules before)
+        Goes D.state D.log D.law (IsDueBy (taken_on H.rules before))
         editor.old.terminal.now editor.new.terminal.now }
 {
     for turn in 0..u64::MAX {
@@ -182,7 +182,7 @@ fn read_events<D: Device, H: LineEditorHost>(
         (events_in (D.log device.new)) (state_in (D.log device.new)) begun
         (H.value host.new) (D.state device.new)) }
     ensures goes { let begun = fresh_frame prompt.now (H.value host.old) (D.state device.old) in
-        Goes D.state D.log D.law (taken_over H.rules begun) device.old device.new }
+        Goes D.state D.log D.law (IsDueBy (taken_over H.rules begun)) device.old device.new }
 {
     let mut editor = LineEditor::new(alloc, device)?;
     editor.set_prompt(prompt)?;
@@ -219,7 +219,7 @@ pub fn read_line_from<D: Device, H: LineEditorHost>(
         (events_in (D.log device.new)) (state_in (D.log device.new)) begun
         (H.value host.new) (D.state device.new)) }
     ensures log { let begun = fresh_frame prompt.now (H.value host.old) (D.state device.old) in
-        GoesInTime (taken_over H.rules begun) (seen_at D.state D.log device.old)
+        GoesInTime (IsDueBy (taken_over H.rules begun)) (seen_at D.state D.log device.old)
         (seen_at D.state D.log device.new) }
     ensures prompt { IsPrompt (seen_at D.state D.log device.old)
         → IsPrompt (seen_at D.state D.log device.new) }

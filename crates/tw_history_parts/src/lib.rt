@@ -3,14 +3,11 @@
 //! Use `FileHistory` if lines are to be there the next time, and `RecentHistory` in memory: `unique` keeps no line
 //! twice.
 //!
-//! From `crates/example_sql/src/session.rt`:
+//! From `crates/tw_prompt/src/session.rt`:
 //!
 //! ```
-//! let statements = RecentHistory::unique(rt.alloc(), STATEMENTS_KEPT);
-//! match &options.history {
-//!     Some(path) => FileHistory::open(rt, path.as_str(), statements),
-//!     None => Ok(FileHistory::in_memory(rt.alloc(), statements)),
-//! }
+//! let lines = RecentHistory::unique(alloc, limit);
+//! self.host.history = FileHistory::open(self.rt, path, lines)?;
 //! ```
 #![tactic(auto)]
 

@@ -1,12 +1,12 @@
 -- The last step that changed the line, from the last step on backwards, and what undos lead to.
-use Rattle.std.proofs.Common.{◌≡◌, ◌≤◌, ◌<◌, ℕ, zero, suc, List, [], ◌∷◌, length, take, eqb, Option, Some, None, Bool, false, not, refl, sym, ◌∙◌, arith, rules, unwrap_or}
+use Rattle.std.proofs.Common.{◌≡◌, ◌≤◌, ◌<◌, ◌++◌, ◌-◌, ℕ, zero, suc, List, [], ◌∷◌, length, take, eqb, Option, Some, None, Bool, true, false, not, slice_get, if◌then◌else◌, refl, ap, sym, ◌∙◌, arith, rules, unwrap_or}
 use Rattle.std.proofs.lemmas.Slice.Eq.{bytes_eq-Decides}
 use Rattle.std.specs.Prelude.{option_map}
 use Rattle.std.specs.Cmp.Lexicographic.{pointwise}
 use Rattle.tw_line.specs.Extremes.{greatest_below, iterate}
 use Rattle.tw_line.specs.Cut.{Cut}
 use Rattle.tw_line.proofs.WordLemmas.{greatest_below-here, greatest_below-skip}
-use Rattle.tw_key_parts.specs.Undo.{Undo, differs_at, last_change, steps_left, step_at, undo_behind, undone, oldest_line, undo_once, UndosGiveOldest, UndoKeepsOldest}
+use Rattle.tw_key_parts.specs.Undo.{Undo, differs_at, last_change, last_undone, steps_left, step_at, oldest_line, undo_once, RedoGivesBack, UndosGiveOldest, UndoKeepsOldest}
 
 pub greatest_end : (p : ℕ → Bool) (n : ℕ) → n ≡ 0 → greatest_below p n ≡ None
 unfolding greatest_below
@@ -56,7 +56,27 @@ undone_all zero u cut few = none_yet u.before few
     none_yet [] few = refl
     none_yet (first ∷ later) few = absurd (omega (arith, few))
 undone_all (suc n) u cut few =
-    undone_all n (undo_behind (steps_left u cut) u) (undone u cut) (fewer u.before cut.line n (last_change cut.line u.before) refl few) ∙ undo_keeps_oldest u cut
+    undone_all n (undo_once (u, cut)).0 (undo_once (u, cut)).1 (fewer u.before cut.line n (last_change cut.line u.before) refl few) ∙ undo_keeps_oldest u cut
 
 pub undos_give_oldest : UndosGiveOldest
 undos_give_oldest u cut = undone_all (length u.before) u cut (omega arith)
+
+-- ---- what a redo gives back
+
+-- the last one of a list with one more
+at_end : {A : Type 0} (xs : List A) (x : A) → slice_get (xs ++ x ∷ []) (length xs) ≡ Some x
+at_end [] x = refl
+at_end (y ∷ xs) x = at_end xs x
+
+one_more : {A : Type 0} (xs : List A) (x : A) → length (xs ++ x ∷ []) ≡ suc (length xs)
+one_more [] x = refl
+one_more (y ∷ xs) x = ap suc (one_more xs x)
+
+last_of : {A : Type 0} (xs : List A) (x : A) (same : Bool) → same ≡ false
+    → let all = if same then xs else xs ++ x ∷ [] in slice_get all (length all - 1) ≡ Some x
+last_of xs x true e = cc
+last_of xs x false e =
+    let last : length (xs ++ x ∷ []) - 1 ≡ length xs = omega (arith, one_more xs x) in ap (slice_get (xs ++ x ∷ [])) last ∙ at_end xs x
+
+pub redo_gives_back : RedoGivesBack
+redo_gives_back u cut changed = last_of u.undone cut _ changed

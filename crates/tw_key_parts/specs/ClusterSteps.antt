@@ -10,7 +10,7 @@ use Rattle.std.specs.Str.{chars}
 use Rattle.tw_line.specs.Extremes.{least_from}
 use Rattle.tw_line.specs.Cut.{Cut}
 use Rattle.tw_line.specs.Movements.{destination}
-use Rattle.tw_input.specs.declared.key.KeyCode.TheVariants.{Backspace, LeftArrow, RightArrow}
+use Rattle.tw_input.specs.declared.key.KeyCode.TheVariants.{Backspace, Delete, LeftArrow, RightArrow}
 use Rattle.tw_input.specs.declared.key.KeyEvent.{KeyEvent}
 use Rattle.tw_input.specs.Modifiers.{alt, ctrl}
 use Rattle.tw_line.specs.declared.movements.Movement.TheVariants as movement
@@ -60,6 +60,7 @@ letter_table cut =
     ∷ (key_press alt (letter (codes "f")), Move (movement.ForwardChar (steps_to_word_end cut)))
     ∷ (key_press alt (letter (codes "b")), Move (movement.BackwardChar (steps_to_word_start cut)))
     ∷ (key_press alt (letter (codes "d")), KillAndMove (movement.ForwardChar (steps_to_word_end cut)) movement.None)
+    ∷ (key_press ctrl Delete, KillAndMove (movement.ForwardChar (steps_to_word_end cut)) movement.None)
     ∷ (key_press alt Backspace, Kill (movement.BackwardChar (steps_to_word_start cut)))
     ∷ []
 

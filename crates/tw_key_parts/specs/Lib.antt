@@ -13,3 +13,6 @@ pub mod LastWords
 pub mod PrefixSearch
 pub mod RowKeys
 pub mod EditedLines
+pub mod LineKeys
+pub mod CharacterSearch
+pub mod LastPattern

@@ -1,7 +1,7 @@
 -- Keys of readline that the key table has not.
 use Rattle.std.specs.Prelude.{◌≡◌, ◌≢◌, ◌==◌, ◌&&◌, not, All, AllPairs, List, [], ◌∷◌, length, codes, Option, Some, None, if◌then◌else◌}
 use Rattle.std.specs.Option.{option_or}
-use Rattle.tw_input.specs.declared.key.KeyCode.TheVariants.{Backspace, LeftArrow, RightArrow}
+use Rattle.tw_input.specs.declared.key.KeyCode.TheVariants.{Backspace, Delete, LeftArrow, RightArrow}
 use Rattle.tw_input.specs.declared.key.KeyEvent.{KeyEvent}
 use Rattle.tw_input.specs.EventView.{EventView}
 use Rattle.tw_input.specs.Modifiers.{alt, ctrl}
@@ -21,6 +21,7 @@ readline_table =
     ∷ (key_press ctrl LeftArrow, Move (movement.BackwardWord 1))
     ∷ (key_press ctrl RightArrow, Move (movement.ForwardWord 1))
     ∷ (key_press alt (letter (codes "d")), KillAndMove (movement.ForwardWord 1) movement.None)
+    ∷ (key_press ctrl Delete, KillAndMove (movement.ForwardWord 1) movement.None)
     ∷ (key_press alt Backspace, Kill (movement.BackwardWord 1))
     ∷ []
 

@@ -2,13 +2,15 @@
 
 ghost use Rattle.tw_input.specs.Equality.{ComparesValues};
 ghost use Rattle.tw_key_parts.specs.EditedLines.{LineIsKept, StepBackIsUndone};
+ghost use Rattle.tw_key_parts.specs.LineKeys.{LineKeysAreDistinct};
 ghost use Rattle.tw_key_parts.specs.Pairs.{OrderIsFree};
 ghost use Rattle.tw_key_parts.specs.ReadlineKeys.{RowsAreDistinct, RowsAreNew};
 ghost use Rattle.tw_key_parts.specs.RowKeys.{OneRowIsLeft, RowKillIsKept, StepsLeadThere};
 ghost use Rattle.tw_key_parts.specs.Ring.{KillIsLatest, KillsKeepLine, YankGivesBack};
-ghost use Rattle.tw_key_parts.specs.Undo.{UndoKeepsOldest, UndosGiveOldest};
+ghost use Rattle.tw_key_parts.specs.Undo.{RedoGivesBack, UndoKeepsOldest, UndosGiveOldest};
 
 use crate::edited_lines::WalkKey;
+use crate::line_keys::LineEdit;
 use crate::part::KeyPart;
 use crate::ring::Latest;
 use crate::row_keys::RowKey;
@@ -20,6 +22,7 @@ pub fn equality()
     ensures rows { ComparesValues ⟦<RowKey as PartialEq>⟧.eq }
     ensures walks { ComparesValues ⟦<WalkKey as PartialEq>⟧.eq }
     ensures edits { ComparesValues ⟦<WordEdit as PartialEq>⟧.eq }
+    ensures lines { ComparesValues ⟦<LineEdit as PartialEq>⟧.eq }
 {}
 
 /// One kill, or many in a row, each of which leaves the cursor where it killed, and a yank right after them give back
@@ -31,11 +34,12 @@ pub fn kills()
     ensures given_back { YankGivesBack }
 {}
 
-/// As many undos as there are steps give the oldest line, and each of them keeps it.
-#[tactic(auto, using(crate::proofs::UndoLemmas::undo_keeps_oldest, crate::proofs::UndoLemmas::undos_give_oldest))]
+/// As many undos as there are steps give the oldest line, and each of them keeps it. A redo gives back what an undo left.
+#[tactic(auto, using(crate::proofs::UndoLemmas::undo_keeps_oldest, crate::proofs::UndoLemmas::undos_give_oldest, crate::proofs::UndoLemmas::redo_gives_back))]
 pub fn undos()
     ensures kept { UndoKeepsOldest }
     ensures given { UndosGiveOldest }
+    ensures back { RedoGivesBack }
 {}
 
 /// The order of two parts is free if no event at a line has an edit of both.
@@ -47,6 +51,11 @@ pub fn order<A: KeyPart, B: KeyPart>()
 pub fn readline_table()
     ensures new { RowsAreNew }
     ensures distinct { RowsAreDistinct }
+{}
+
+/// No key that edits the line stands in two rows.
+pub fn line_table()
+    ensures { LineKeysAreDistinct }
 {}
 
 /// The keys for rows leave a line of one row to the other keys, but for the key that begins a row. The steps that they

@@ -36,7 +36,7 @@ fn key_action(
             let count = steps_to_word_start(alloc, editor)?;
             Ok(Some(Action::Move(Movement::BackwardChar(count))))
         }
-        (Modifiers::ALT, KeyCode::Char('d')) => {
+        (Modifiers::ALT, KeyCode::Char('d')) | (Modifiers::CTRL, KeyCode::Delete) => {
             let count = steps_to_word_end(alloc, editor)?;
             Ok(Some(Action::KillAndMove(Movement::ForwardChar(count), Movement::None)))
         }
@@ -49,8 +49,8 @@ fn key_action(
 }
 
 /// Keys for words of letters and digits, as in readline: Alt-f and Ctrl-Right move past the next word, Alt-b and
-/// Ctrl-Left to the start of the previous one, Alt-d kills the next word, and Alt-Backspace the previous one. They have
-/// no action during a search. Put them before `ReadlineKeys`, whose words end at whitespace.
+/// Ctrl-Left to the start of the previous one, Alt-d and Ctrl-Delete kill the next word, and Alt-Backspace the previous
+/// one. They have no action during a search. Put them before `ReadlineKeys`, whose words end at whitespace.
 #[derive(Debug, Drop)]
 pub struct LetterWords;
 

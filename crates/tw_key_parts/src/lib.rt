@@ -6,20 +6,25 @@
 //! From `crates/tw_prompt/src/keys.rt`:
 //!
 //! ```
-//! let words = (Keys(LetterWords), (Keys(ReadlineKeys), Keys(WordKeys)));
-//! let recalls = (PrefixSearch::new(), EditedLines::new(alloc));
+//! let edits = (Keys(WordKeys), (Keys(LineKeys), CharacterSearch::new()));
+//! let words = (Keys(LetterWords), (Keys(ReadlineKeys), edits));
+//! let lines = (EditedLines::new(alloc), LastPattern::new(alloc));
+//! let recalls = (PrefixSearch::new(), lines);
 //! let history = (LastWords::new(), recalls);
 //! let others = (words, (history, KillRing::new(alloc)));
 //! (UndoSteps::new(alloc), others)
 //! ```
 #![tactic(auto)]
 
+mod character_search;
 mod edit;
 mod edited_lines;
 mod keys;
+mod last_pattern;
 mod last_words;
 pub mod laws;
 mod letter_keys;
+mod line_keys;
 mod pair;
 mod part;
 mod plain_keys;
@@ -34,11 +39,14 @@ mod watch;
 mod word_edits;
 mod word_keys;
 
+pub use character_search::CharacterSearch;
 pub use edit::{Edit, EditResult};
 pub use edited_lines::EditedLines;
 pub use keys::is_key;
+pub use last_pattern::LastPattern;
 pub use last_words::LastWords;
 pub use letter_keys::LetterWords;
+pub use line_keys::{LineEdit, LineKeys, commented, line_edit_of, without_blanks};
 pub use part::{Asked, KeyPart, Step, follow_event};
 pub use plain_keys::{Keys, PlainKeys};
 pub use prefix_search::PrefixSearch;

@@ -46,7 +46,7 @@ fn readline_key(
         }
         (Modifiers::CTRL, KeyCode::LeftArrow) => Some(Action::Move(Movement::BackwardWord(1))),
         (Modifiers::CTRL, KeyCode::RightArrow) => Some(Action::Move(Movement::ForwardWord(1))),
-        (Modifiers::ALT, KeyCode::Char('d')) => {
+        (Modifiers::ALT, KeyCode::Char('d')) | (Modifiers::CTRL, KeyCode::Delete) => {
             Some(Action::KillAndMove(Movement::ForwardWord(1), Movement::None))
         }
         (Modifiers::ALT, KeyCode::Backspace) => Some(Action::Kill(Movement::BackwardWord(1))),
@@ -55,8 +55,8 @@ fn readline_key(
 }
 
 /// Keys of readline: Ctrl-U kills to the start of the line, or of its row if it has several, and at the start of a row
-/// the line feed before it; Alt-d kills the next word and Alt-Backspace the previous one; Ctrl-Left and Ctrl-Right move
-/// by words; Ctrl-D deletes a character, and on an empty line ends the input. Words end at whitespace.
+/// the line feed before it; Alt-d and Ctrl-Delete kill the next word and Alt-Backspace the previous one; Ctrl-Left and
+/// Ctrl-Right move by words; Ctrl-D deletes a character, and on an empty line ends the input. Words end at whitespace.
 #[derive(Debug, Drop)]
 pub struct ReadlineKeys;
 

@@ -54,7 +54,7 @@ pub fn row_key(event: &InputEvent) -> Option<RowKey>
 
 /// Returns the start of the row of an offset: after the last line feed before it.
 #[tactic(auto, using(crate::proofs::StepLemmas::text_starts))]
-fn row_start(line: &str, at: usize) -> usize
+pub fn row_start(line: &str, at: usize) -> usize
     requires { IsCharBoundary line.now at }
     ensures value { result ≡ row_start line.now at }
     ensures boundary { IsCharBoundary line.now result }
@@ -68,9 +68,10 @@ fn row_start(line: &str, at: usize) -> usize
 }
 
 /// Returns the end of the row of an offset: at the next line feed.
-fn row_end(line: &str, at: usize) -> usize
+pub fn row_end(line: &str, at: usize) -> usize
     requires { IsCharBoundary line.now at }
     ensures value { result ≡ row_end line.now at }
+    ensures boundary { IsCharBoundary line.now result }
     ensures within { result ≤ length line.now }
     ensures below { result < length line.now → IsCharBoundary line.now (result + 1) }
 {

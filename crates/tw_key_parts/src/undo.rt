@@ -1,9 +1,10 @@
 //! Undo.
 
-ghost use Rattle.std.specs.Prelude.{◌≡◌, ◌<◌, IfSome, length};
+ghost use Rattle.std.specs.Prelude.{◌≡◌, ◌<◌, IfOk, IfSome, None, length, option_map};
 ghost use Rattle.tw_input.specs.EventView.{event_view};
-ghost use Rattle.tw_key_parts.specs.EditView.{lent_action};
-ghost use Rattle.tw_key_parts.specs.Undo.{begins_step, is_undo, last_change, no_steps, undo_view};
+ghost use Rattle.tw_key_parts.specs.EditView.{edit_view, lent_action};
+ghost use Rattle.tw_key_parts.specs.KeyRules.{shown};
+ghost use Rattle.tw_key_parts.specs.Undo.{begins_step, is_redo, is_undo, last_change, last_undone, no_steps, undo_view};
 
 use crate::edit::{EditResult, shown};
 use crate::keys::{is_key, key_of};
@@ -18,9 +19,12 @@ use tw_line::{History, LineEditBuffer};
 ///
 /// A run of typed characters is one step, and so are a kill, a paste, a completion, a step through the history, and a
 /// search. A movement ends a run. Steps that left the line as it was are skipped. The end of a line drops its steps.
+///
+/// Alt-_, or Ctrl-X Ctrl-_, redoes what was undone last, as long as no step followed.
 #[derive(Debug, Drop)]
 pub struct UndoSteps {
     before: Vec<LineEditBuffer>,
+    undone: Vec<LineEditBuffer>,
     typing: bool,
     prefixed: bool,
     spare: LineEditBuffer,
@@ -53,6 +57,7 @@ impl UndoSteps {
     {
         UndoSteps {
             before: Vec::new(alloc),
+            undone: Vec::new(alloc),
             typing: false,
             prefixed: false,
             spare: LineEditBuffer::empty(alloc),
@@ -65,6 +70,25 @@ impl UndoSteps {
     {
         is_key(key_of(Modifiers::CTRL, '_'), event)
             || (self.prefixed && is_key(key_of(Modifiers::CTRL, 'U'), event))
+    }
+
+    /// Returns true for Alt-_, and for Ctrl-_ right after Ctrl-X.
+    fn is_redo(&self, event: &InputEvent) -> bool
+        ensures { result ≡ is_redo (undo_view self.now) (event_view event.now) }
+    {
+        is_key(key_of(Modifiers::ALT, '_'), event)
+            || (self.prefixed && is_key(key_of(Modifiers::CTRL, '_'), event))
+    }
+
+    /// Returns the edit of a redo, if anything was undone.
+    fn redo(&self, alloc: Global) -> EditResult<Option<usize>>
+        ensures { IfOk result (λ edit. option_map (edit_view (λ note. note)) edit
+            ≡ option_map (λ cut. shown cut None) (last_undone (undo_view self.now))) }
+    {
+        match self.undone.last() {
+            Some(line) => Ok(Some(shown(line.try_clone(alloc)?, None))),
+            None => Ok(None),
+        }
     }
 
     /// Returns the index of the last step that changed the line.
@@ -83,38 +107,46 @@ impl UndoSteps {
 }
 
 impl KeyPart for UndoSteps {
-    ghost use Rattle.std.specs.Prelude.{◌≡◌, ◌<◌, ℕ};
+    ghost use Rattle.std.specs.Prelude.{◌≡◌, ◌<◌, ℕ, Option};
     ghost use Rattle.std.specs.Vec.{vec_capacity, vec_len};
     ghost use Rattle.tw_key_parts.specs.Undo.{Undo, undo_key_rules, undo_view};
 
-    type Note = usize;
+    type Note = Option<usize>;
 
     ghost State = { Undo };
 
-    ghost Kept = { ℕ };
+    ghost Kept = { Option ℕ };
 
     ghost state = { undo_view };
 
-    ghost kept = { λ left. left };
+    ghost kept = { λ turn. turn };
 
     ghost keys = { undo_key_rules };
 
-    ghost is_ready = { λ it cut. (it.spare ≡ cut) × (vec_len it.before < vec_capacity it.before) };
+    ghost is_ready = { λ it cut. (it.spare ≡ cut) × (vec_len it.before < vec_capacity it.before)
+        × (vec_len it.undone < vec_capacity it.undone) };
 
     #[tactic(auto, using(std::proofs::lemmas::List::get_or_read))]
-    fn edit<L: History>(&self, alloc: Global, asked: &Asked<'_, L>) -> EditResult<usize> {
-        if asked.searching || !self.is_undo(asked.event) {
+    fn edit<L: History>(&self, alloc: Global, asked: &Asked<'_, L>) -> EditResult<Option<usize>> {
+        if asked.searching {
+            return Ok(None);
+        }
+        if self.is_redo(asked.event) {
+            return self.redo(alloc);
+        }
+        if !self.is_undo(asked.event) {
             return Ok(None);
         }
         let (left, undone) = match self.last_change(asked.line) {
             Some(at) => (at, &self.before[at]),
             None => (0, asked.line),
         };
-        Ok(Some(shown(undone.try_clone(alloc)?, left)))
+        Ok(Some(shown(undone.try_clone(alloc)?, Some(left))))
     }
 
     fn prepare(&mut self, alloc: Global, line: &LineEditBuffer) -> Result<(), AllocError> {
         self.before.reserve(1)?;
+        self.undone.reserve(1)?;
         self.spare = line.try_clone(alloc)?;
         Ok(())
     }
@@ -131,20 +163,36 @@ impl KeyPart for UndoSteps {
         self.prefixed = action.is_none() && is_key(key_of(Modifiers::CTRL, 'X'), step.event);
         if action.is_some_and(Action::ends_line) {
             self.before.clear();
+            self.undone.clear();
         } else if begins && !step.searching {
+            self.undone.clear();
             let line = std::mem::replace(&mut self.spare, LineEditBuffer::empty(alloc));
             self.before.push(line).unwrap();
         }
     }
 
-    fn follow_own(&mut self, _alloc: Global, left: usize, _step: &Step<'_>) {
-        self.before.truncate(left);
+    fn follow_own(&mut self, alloc: Global, turn: Option<usize>, step: &Step<'_>) {
+        let line = std::mem::replace(&mut self.spare, LineEditBuffer::empty(alloc));
+        match turn {
+            Some(left) => {
+                self.before.truncate(left);
+                if step.before.get_line() != step.after.get_line() {
+                    self.undone.push(line).unwrap();
+                }
+            }
+            None => {
+                let left = self.undone.len().saturating_sub(1);
+                self.undone.truncate(left);
+                self.before.push(line).unwrap();
+            }
+        }
         self.typing = false;
         self.prefixed = false;
     }
 
     fn leave_line(&mut self) {
         self.before.clear();
+        self.undone.clear();
         self.typing = false;
         self.prefixed = false;
     }

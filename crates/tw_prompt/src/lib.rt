@@ -24,7 +24,6 @@
 
 mod application;
 mod arguments;
-mod brackets;
 mod error;
 mod events;
 mod joined;
@@ -32,24 +31,37 @@ mod keys;
 mod line_ends;
 mod listings;
 mod marks;
+mod offers;
+mod painter;
 mod pictures;
 mod plain;
 mod prompt;
+mod session;
 mod sizes;
 mod streams;
-mod words;
+mod style;
+mod switched;
 
 pub use application::{Application, read_with};
 pub use arguments::Arguments;
-pub use brackets::with_brackets;
 pub use error::PromptError;
 pub use events::{Pending, PromptEvents, TypedEvents};
 pub use keys::{AllKeys, all_keys};
 pub use listings::read_listing;
 pub use marks::{BEGIN, END};
+pub use offers::Offers;
+pub use painter::Painter;
 pub use pictures::{visible, visible_rows};
-pub use prompt::{Prompt, PromptOver, PromptTerminal};
+pub use prompt::{PromptOver, PromptTerminal};
+pub use session::{Prompt, PromptKeys};
 pub use sizes::{fitting, usable};
 pub use streams::{LastError, TerminalInput, TerminalOutput, open_streams};
+pub use style::Style;
+pub use switched::Switched;
+pub use tw_device::Answer;
+pub use tw_history_parts::{FileHistory, RecentHistory, Unread};
+pub use tw_prompt_host::{
+    Hints, MarkPair, MenuStyle, NestedLines, PromptHost, Rows, Validation, Validator, common_pairs,
+};
+pub use tw_surface::{CellAttributes, ColorAttribute, Intensity, Underline};
 pub use tw_typed::Typed;
-pub use words::WordBefore;

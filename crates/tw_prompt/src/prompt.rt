@@ -1,19 +1,16 @@
 //! A prompt in a program: lines are read at its terminal, or plainly at a pipe.
 
-ghost use Rattle.std.specs.Prelude.{◌≡◌, string_bytes, IfOk};
-ghost use Rattle.tw_device.specs.Hooked.{IsReadHooked, Prepares};
+ghost use Rattle.std.specs.Prelude.{◌≡◌, string_bytes, IfOk, OnErr};
 ghost use Rattle.tw_device.specs.Joined.{seen_of};
-ghost use Rattle.tw_device.specs.Live.{fresh_frame};
 ghost use Rattle.tw_device.specs.Steps.{IsPrompt};
 ghost use Rattle.tw_prompt_host.specs.Going.{going_at_rest};
-ghost use Rattle.tw_prompt.specs.Places.{accepted_in, line_begun, seen_in, IsReadAndKept, IsRemembered, IsReadFrom, IsReadIn, StaysPrompt};
-ghost use Rattle.tw_prompt.specs.Prepared.{PreparesOnly};
+ghost use Rattle.tw_prompt.specs.Places.{accepted_in, line_begun, seen_in, IsUnreadFrom, IsUnreadIn, IsAskedFrom, IsHookedFrom, IsReadAndKept, IsRemembered, IsReadFrom, IsReadIn, StaysPrompt};
+ghost use Rattle.tw_prompt.specs.Prepared.{application_rules, PreparesOnly};
 
 use crate::application::{Application, read_with};
 use crate::arguments::Arguments;
 use crate::error::PromptError;
 use crate::events::{PromptEvents, TypedEvents};
-use crate::keys::{AllKeys, all_keys};
 use crate::line_ends::with_line_ends;
 use crate::marks::{BEGIN, END};
 use crate::plain::PlainLine;
@@ -22,14 +19,11 @@ use std::alloc::Global;
 use std::io::Write;
 use tw_device::{Answer, DeviceTerminal, Joined, Pasted, read_line_from};
 use tw_key_parts::KeyPart;
-use tw_line::{BasicHistory, History, LentLines};
+use tw_line::{History, LentLines};
 use tw_lineedit::{Error, LineEditorHost};
-use tw_prompt_host::{Hints, PreparedHost, PreparedLines, PromptHost, Rows, Validation, Validator};
+use tw_prompt_host::{PreparedHost, PreparedLines, PromptHost, Rows, Validation, Validator};
 use tw_sparing::PatientTerminal;
 use tw_terminal::ScreenSize;
-
-/// The columns of a prompt before it is opened at a terminal.
-const COLS: usize = 80;
 
 /// A terminal in raw mode.
 #[derive(Drop)]
@@ -60,12 +54,9 @@ pub struct PromptOver<T, H, L, K, V> {
     pub host: Box<PromptHost<H, L, K, V>>,
     /// True if accepted lines that are not empty go into the history.
     pub remembers: bool,
-    rt: HostRuntime,
+    pub(crate) rt: HostRuntime,
     place: Box<Place<T>>,
 }
-
-/// A prompt of ready parts.
-pub type Prompt = PromptOver<PromptTerminal, PreparedHost, BasicHistory, AllKeys, PreparedLines>;
 
 impl<T: DeviceTerminal> TerminalPlace<T> {
     /// Returns why a call failed, which the streams may know better.
@@ -114,6 +105,9 @@ impl<T: DeviceTerminal> TerminalPlace<T> {
         ensures ok { let line = line_begun H.rules H.OVERRIDES prompt.now (H.value host.old) in
             IfOk result (IsReadFrom line (seen_of T.state self.old.device)
             (seen_of T.state self.new.device) (H.value host.new)) }
+        ensures err { let line = line_begun H.rules H.OVERRIDES prompt.now (H.value host.old) in
+            OnErr result (IsUnreadFrom line (seen_of T.state self.old.device)
+            (seen_of T.state self.new.device) (H.value host.new)) }
         ensures prompt { IsPrompt (seen_of T.state self.old.device)
             → IsPrompt (seen_of T.state self.new.device) }
     {
@@ -133,10 +127,10 @@ impl<T: DeviceTerminal> TerminalPlace<T> {
         prompt: &str,
     ) -> Result<Answer, PromptError>
         ensures ok { let host_of = ⟦<PromptHost<PreparedHost, L, K, PreparedLines> as LineEditorHost>⟧ in
-            let begun = fresh_frame prompt.now (host_of.value host.old) (T.state self.old.device.terminal) in
-            IfOk result (IsReadHooked host_of.rules host_of.OVERRIDES
-            (Prepares host_of.value PreparesOnly) (seen_of T.state self.old.device)
-            (seen_of T.state self.new.device) begun (host_of.value host.new)) }
+            let line = line_begun host_of.rules host_of.OVERRIDES prompt.now (host_of.value host.old) in
+            IfOk result (IsHookedFrom host_of.value application_rules line
+            (seen_of T.state self.old.device) (seen_of T.state self.new.device)
+            (host_of.value host.new)) }
         ensures prompt { IsPrompt (seen_of T.state self.old.device)
             → IsPrompt (seen_of T.state self.new.device) }
     {
@@ -172,19 +166,6 @@ fn pasted_for(rows: &Rows) -> Pasted {
         Pasted::Rows
     } else {
         Pasted::OneRow
-    }
-}
-
-impl PromptOver<PromptTerminal, PreparedHost, BasicHistory, AllKeys, PreparedLines> {
-    /// Opens a prompt with this text, all keys, hints after the cursor, and an empty history.
-    pub fn open(rt: HostRuntime, prompt: &str) -> Result<Self, PromptError> {
-        let alloc = rt.alloc();
-        let mut host = PromptHost::new(alloc, prompt, COLS)?
-            .with_host(PreparedHost::new(alloc))
-            .with_keys(all_keys(alloc))
-            .with_validator(PreparedLines::new(alloc));
-        host.hints = Hints::dim();
-        PromptOver::over(rt, host)
     }
 }
 
@@ -252,6 +233,11 @@ impl<
         })
     }
 
+    /// Returns true if lines are typed at a terminal.
+    pub fn is_typed(&self) -> bool {
+        matches!(&*self.place, Place::Terminal(_))
+    }
+
     /// Forgets what the last line left, and lets pasted texts keep their rows if the host shows rows. Returns the
     /// prompt.
     fn begin_line(&mut self) -> Result<String, PromptError>
@@ -282,6 +268,8 @@ impl<
         ensures kept { let host = ⟦<PromptHost<H, L, K, V> as LineEditorHost>⟧ in
             IfOk answer (λ it. IsRemembered host.rules.lines self.old.remembers (accepted_in it)
             (host.value self.old.host.value) (host.value self.new.host.value)) }
+        ensures left { let host = ⟦<PromptHost<H, L, K, V> as LineEditorHost>⟧ in
+            OnErr answer (host.value self.new.host.value ≡ host.value self.old.host.value) }
     {
         if let Place::Terminal(place) = &mut *self.place {
             let _unmarked = place.end();
@@ -298,6 +286,11 @@ impl<
             let value = host.value self.old.host.value in
             let line = line_begun host.rules host.OVERRIDES prompt.now value in
             IfOk result (IsReadIn (IsReadFrom line) (seen_in T.state self.old.place.value)
+            (seen_in T.state self.new.place.value) (host.value self.new.host.value)) }
+        ensures err { let host = ⟦<PromptHost<H, L, K, V> as LineEditorHost>⟧ in
+            let value = host.value self.old.host.value in
+            let line = line_begun host.rules host.OVERRIDES prompt.now value in
+            OnErr result (IsUnreadIn line (seen_in T.state self.old.place.value)
             (seen_in T.state self.new.place.value) (host.value self.new.host.value)) }
         ensures prompt { StaysPrompt (seen_in T.state self.old.place.value)
             (seen_in T.state self.new.place.value) }
@@ -325,6 +318,15 @@ impl<
             IfOk result (IsReadAndKept IsReadFrom line self.old.remembers
             (seen_in T.state self.old.place.value) (seen_in T.state self.new.place.value)
             (host.value self.new.host.value)) }
+        ensures err { let host = ⟦<PromptHost<H, L, K, V> as LineEditorHost>⟧ in
+            let fresh = record (host.value self.old.host.value) {
+              keys = K.keys.leaves (K.state self.old.host.value.keys);
+              going = going_at_rest;
+            } in
+            let prompt = string_bytes self.old.host.value.screen.prompt in
+            let line = line_begun host.rules host.OVERRIDES prompt fresh in
+            OnErr result (IsUnreadIn line (seen_in T.state self.old.place.value)
+            (seen_in T.state self.new.place.value) (host.value self.new.host.value)) }
         ensures prompt { StaysPrompt (seen_in T.state self.old.place.value)
             (seen_in T.state self.new.place.value) }
     {
@@ -402,20 +404,57 @@ impl<T: DeviceTerminal + Drop, L: History + LentLines + Drop, K: KeyPart + Drop>
     K,
     PreparedLines,
 > {
-    /// Reads a line as `read` does, with the functions of an application.
+    /// Reads a line where the prompt reads its lines, with the functions of an application.
+    fn read_line_with<A: Application>(
+        &mut self,
+        application: &mut A,
+        prompt: &str,
+    ) -> Result<Answer, PromptError>
+        ensures ok { let host = ⟦<PromptHost<PreparedHost, L, K, PreparedLines> as LineEditorHost>⟧ in
+            let value = host.value self.old.host.value in
+            let line = line_begun host.rules host.OVERRIDES prompt.now value in
+            IfOk result (IsReadIn (IsHookedFrom host.value application_rules line)
+            (seen_in T.state self.old.place.value) (seen_in T.state self.new.place.value)
+            (host.value self.new.host.value)) }
+        ensures prompt { StaysPrompt (seen_in T.state self.old.place.value)
+            (seen_in T.state self.new.place.value) }
+        ensures remembers { self.new.remembers ≡ self.old.remembers }
+    {
+        let alloc = self.rt.alloc();
+        match &mut *self.place {
+            Place::Pipe => read_plainly_with(self.rt, application),
+            Place::Terminal(place) => place.read_with(alloc, application, &mut *self.host, prompt),
+        }
+    }
+
+    /// Forgets what an application said of a line.
+    fn forget_validation(&mut self)
+        ensures place { self.new.place ≡ self.old.place }
+        ensures remembers { self.new.remembers ≡ self.old.remembers }
+        ensures changes { PreparesOnly self.old.host.value self.new.host.value }
+    {
+        self.host.validator.validation = Validation::Valid;
+    }
+
+    /// Reads a line as `read` does, with the functions of an application: see [`Application`].
     pub fn read_with<A: Application>(&mut self, application: &mut A) -> Result<Answer, PromptError>
+        ensures ok { let host = ⟦<PromptHost<PreparedHost, L, K, PreparedLines> as LineEditorHost>⟧ in
+            let fresh = record (host.value self.old.host.value) {
+              keys = K.keys.leaves (K.state self.old.host.value.keys);
+              going = going_at_rest;
+            } in
+            let prompt = string_bytes self.old.host.value.screen.prompt in
+            let line = line_begun host.rules host.OVERRIDES prompt fresh in
+            let Reads = IsAskedFrom host.value application_rules in
+            IfOk result (IsReadAndKept Reads line self.old.remembers
+            (seen_in T.state self.old.place.value) (seen_in T.state self.new.place.value)
+            (host.value self.new.host.value)) }
         ensures prompt { StaysPrompt (seen_in T.state self.old.place.value)
             (seen_in T.state self.new.place.value) }
     {
         let prompt = self.begin_line()?;
-        let alloc = self.rt.alloc();
-        let answer = match &mut *self.place {
-            Place::Pipe => read_plainly_with(self.rt, application),
-            Place::Terminal(place) => {
-                place.read_with(alloc, application, &mut *self.host, prompt.as_str())
-            }
-        };
-        self.host.validator.validation = Validation::Valid;
+        let answer = self.read_line_with(application, prompt.as_str());
+        self.forget_validation();
         self.end_line(answer)
     }
 }

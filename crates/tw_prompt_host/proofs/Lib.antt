@@ -6,5 +6,6 @@ pub mod LayoutLemmas
 pub mod PreparedLemmas
 pub mod HintLemmas
 pub mod SearchLemmas
+pub mod AcceptLemmas
 pub mod AnswerLemmas
 pub mod RowLemmas

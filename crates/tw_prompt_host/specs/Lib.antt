@@ -1,5 +1,6 @@
 pub mod Nesting
 pub mod MenuLayout
+pub mod MenuKeys
 pub mod Menu
 pub mod Hint
 pub mod Prepared

@@ -1,15 +1,11 @@
 -- The menu of a completion: how it goes on, and what it shows and offers.
-use Rattle.std.specs.Prelude.{◌+◌, ◌-◌, ◌%◌, ◌==◌, ◌&&◌, Bool, true, false, not, nat_lt, List, length, take, drop, Option, Some, None, if◌then◌else◌}
-use Rattle.tw_input.specs.declared.key.KeyCode.TheVariants.{Tab}
-use Rattle.tw_input.specs.declared.key.KeyEvent.{KeyEvent}
+use Rattle.std.specs.Prelude.{ℕ, ◌-◌, ◌&&◌, Bool, true, false, not, nat_lt, min, List, length, take, drop, Option, Some, None, option_map, if◌then◌else◌}
 use Rattle.tw_input.specs.EventView.{EventView}
-use Rattle.tw_input.specs.Modifiers.{shift}
 use Rattle.tw_line.specs.Cut.{Cut}
 use Rattle.tw_host.specs.ActionView.{ActionView, Complete, NoAction, Repaint}
 use Rattle.tw_host.specs.CandidateView.{CandidateView}
 use Rattle.tw_host.specs.ElementView.{ElementView}
-use Rattle.tw_host.specs.KeyTable.{key_press}
-use Rattle.tw_key_parts.specs.Keys.{is_key}
+use Rattle.tw_prompt_host.specs.MenuKeys.{menu_walked_by}
 use Rattle.tw_prompt_host.specs.MenuLayout.{Shown, menu_page}
 use Rattle.tw_prompt_host.specs.declared.layout.MenuStyle.{MenuStyle}
 use Rattle.tw_prompt_host.specs.declared.menu.Menu.{Menu}
@@ -17,15 +13,9 @@ use Rattle.tw_prompt_host.specs.declared.menu.Menu.TheVariants.{Closed, Unseen, 
 use Rattle.tw_prompt_host.specs.declared.menu.Turn.{Turn}
 use Rattle.tw_prompt_host.specs.declared.menu.Turn.TheVariants as turn
 
--- goes back through the candidates
-abbrev pub back_key : KeyEvent
-back_key = key_press shift Tab
-
--- one step on, from the last candidate to the first, or back, from the first one to the last
-abbrev pub stepped : Bool → Shown → Shown
-stepped back m =
-    let previous = if m.chosen == 0 then length m.candidates - 1 else m.chosen - 1 in
-    record m { chosen = if back then previous else (m.chosen + 1) % length m.candidates }
+-- the candidate at an index, or the last one if there are fewer
+abbrev pub chosen_at : ℕ → Shown → Shown
+chosen_at index m = record m { chosen = min index (length m.candidates - 1) }
 
 -- the menu with which a completion of a line begins
 abbrev pub menu_begun : List CandidateView → Cut → Menu
@@ -37,16 +27,10 @@ abbrev pub is_completing : Option ActionView → Bool
 is_completing (Some Complete) = true
 is_completing _ = false
 
--- where an event leads an open menu: back by its key, and on by a completion
-abbrev pub step_of_menu : Bool → Bool → Shown → Option Menu
-step_of_menu true completing m = Some (Open (stepped true m))
-step_of_menu false true m = Some (Open (stepped false m))
-step_of_menu false false m = None
-
--- the menu to which an event turns: an open one goes on or back, or one begins if its candidates are known
-abbrev pub turned : Option Menu → EventView → Option ActionView → Menu → Option Menu
-turned begun event action (Open m) = step_of_menu (is_key back_key event) (is_completing action) m
-turned begun event action m = begun
+-- the menu to which an event turns: its keys walk through an open one, or one begins if its candidates are known
+abbrev pub turned : MenuStyle → Option Menu → EventView → Menu → Option Menu
+turned style begun event (Open m) = option_map (λ index. Open (chosen_at index m)) (menu_walked_by style event m)
+turned style begun event m = begun
 
 -- an open menu is closed once another line comes in
 abbrev pub open_if : Bool → Menu → Menu
@@ -105,5 +89,5 @@ turn_line _ = None
 -- the menu that a turn leads to; only an open one takes a step
 abbrev pub turn_view : Menu → Turn → Menu
 turn_view m (turn.Begins begun) = begun
-turn_view (Open m) (turn.Step back) = Open (stepped back m)
-turn_view m (turn.Step back) = m
+turn_view (Open m) (turn.Step index) = Open (chosen_at index m)
+turn_view m (turn.Step index) = m

@@ -40,6 +40,18 @@ row_len cols width = max (cols / (width + 2)) 1
 abbrev pub page_len : ℕ → ℕ → ℕ → ℕ
 page_len in_row rows count = min (in_row * max rows 1) count
 
+-- the texts of candidates
+abbrev pub menu_texts : List CandidateView → List (List ℕ)
+menu_texts candidates = map (λ candidate. candidate.text) candidates
+
+-- how many of some candidates stand in a row: no more than there are
+abbrev pub menu_row : MenuStyle → List CandidateView → ℕ
+menu_row style candidates = min (row_len style.cols (widest (menu_texts candidates))) (length candidates)
+
+-- how many of some candidates stand on a page
+abbrev pub menu_page_len : MenuStyle → List CandidateView → ℕ
+menu_page_len style candidates = page_len (row_len style.cols (widest (menu_texts candidates))) style.rows (length candidates)
+
 -- a text, filled up with spaces to `width` columns
 abbrev pub filled_cell : ℕ → List ℕ → List ℕ
 filled_cell width text = text ++ replicate (width - column_width text) 32
@@ -51,10 +63,6 @@ gap in_row start at = if at == start then [] else if at % in_row == 0 then 13 �
 -- a cell after what stands before it, in attributes of its own if it is the chosen one
 abbrev pub menu_cell : MenuStyle → List ℕ → Bool → List ℕ → List ElementView
 menu_cell style before is_chosen text = Text before ∷ (if is_chosen then styled_text style.chosen text else Text text ∷ [])
-
--- the texts of candidates
-abbrev pub menu_texts : List CandidateView → List (List ℕ)
-menu_texts candidates = map (λ candidate. candidate.text) candidates
 
 -- the cell of one of some texts on a page from one on, where one of them is chosen
 abbrev pub page_cell : MenuStyle → List (List ℕ) → ℕ → ℕ → ℕ → List ElementView

@@ -4,7 +4,7 @@ use Rattle.tw_surface.specs.Defaults.{default_attributes}
 use Rattle.tw_input.specs.EventView.{EventView}
 use Rattle.tw_line.specs.Cut.{Cut}
 use Rattle.tw_line.specs.declared.movements.Movement.TheVariants as movement
-use Rattle.tw_host.specs.ActionView.{ActionView, Cancel, Complete, HistoryIncSearchBackwards, HistoryIncSearchForwards, InsertText, Move}
+use Rattle.tw_host.specs.ActionView.{ActionView, AcceptLine, Cancel, Complete, HistoryIncSearchBackwards, HistoryIncSearchForwards, InsertText, Move}
 use Rattle.tw_host.specs.CandidateView.{CandidateView}
 use Rattle.tw_host.specs.ElementView.{ElementView}
 use Rattle.tw_host.specs.HostRules.{HostRules, Resolution, or_default}
@@ -22,6 +22,7 @@ use Rattle.tw_prompt_host.specs.AfterLine.{after_line_on}
 use Rattle.tw_prompt_host.specs.FailingSearch.{failing_text, fails_after, is_failing}
 use Rattle.tw_prompt_host.specs.MenuLayout.{style_after}
 use Rattle.tw_prompt_host.specs.Menu.{asks, is_menu_open, menu_begun, offered, page_or, turn_line, turn_unless, turned}
+use Rattle.tw_prompt_host.specs.MenuKeys.{edit_in_menu, menu_key}
 use Rattle.tw_prompt_host.specs.Rows.{are_shown, highlight_on}
 use Rattle.tw_prompt_host.specs.Validation.{ValidationView, Valid, reason_or}
 use Rattle.tw_prompt_host.specs.Verdicts.{accepting, failing_by, said, verdict_on}
@@ -32,6 +33,8 @@ use Rattle.tw_prompt_host.specs.declared.hint.Hints.{Hints}
 use Rattle.tw_prompt_host.specs.declared.hint.Hints.TheVariants.{After}
 use Rattle.tw_prompt_host.specs.declared.layout.MenuStyle.{MenuStyle}
 use Rattle.tw_prompt_host.specs.declared.menu.Menu.{Menu}
+use Rattle.tw_prompt_host.specs.declared.menu.Menu.TheVariants.{Open}
+use Rattle.tw_prompt_host.specs.declared.menu_keys.MenuKey.{MenuKey}
 
 -- what the application's host holds, the lines of the history and those of them that are lent, the completers with
 -- listings of directories, what the keys hold, how hints are shown, whether a search that fails is not accepted, what
@@ -75,6 +78,11 @@ module _ {K : Type 0} where
   leaving true before action edit = Some (record { cut = None; action = Move movement.None; kept = None })
   leaving false before (Some Cancel) edit = Some (record { cut = before; action = Cancel; kept = None })
   leaving false before _ edit = edit
+
+  -- the edit of a key in an open menu, or else such an edit
+  abbrev pub in_menu : Menu → Option MenuKey → Option (Edited (Option K)) → Option (Edited (Option K))
+  in_menu (Open m) (Some key) edit = edit_in_menu key m
+  in_menu _ _ edit = edit
 
   -- the action of such an edit, if there is one
   abbrev pub edit_action : Option (Edited (Option K)) → Option ActionView
@@ -123,7 +131,7 @@ module _ {V S K : Type 0} (keys : KeyRules S K) (rules : HostRules V) where
 
   -- where an event turns the menu
   abbrev pub turn_at : Prompted V S → EventView → Cut → Option Menu
-  turn_at v event cut = turned (begun_at v (action_of event) cut) event (action_of event) v.going.menu
+  turn_at v event cut = turned v.style (begun_at v (action_of event) cut) event v.going.menu
 
   -- the edit of an event in a line that is not searched for: a hint is taken, or that of the parts
   abbrev pub line_edit : Prompted V S → EventView → Cut → Option (Edited (Option K))
@@ -131,10 +139,11 @@ module _ {V S K : Type 0} (keys : KeyRules S K) (rules : HostRules V) where
       let hint = if are_on v.hints then hint_taken_by v.lent (hides_hint v.going) (action_of event) cut else None in
       hint_or cut hint (keys.edits v.keys (record { event = event; searching = v.going.searching; lines = v.lines; cut = cut }))
 
-  -- the edit that an event has without the menu
+  -- the edit that an event has
   abbrev pub edit_at : Prompted V S → EventView → Cut → Option (Edited (Option K))
   edit_at v event cut =
-      if v.going.searching then leaving (ends_search event) v.going.before_search (action_of event) (line_edit v event cut) else line_edit v event cut
+      if v.going.searching then leaving (ends_search event) v.going.before_search (action_of event) (line_edit v event cut)
+      else in_menu v.going.menu (menu_key event) (line_edit v event cut)
 
   -- what becomes of accepting a line, and of accepting the line that a search found
   abbrev pub accepting_at : Prompted V S → List ℕ → Verdict
@@ -235,3 +244,8 @@ module _ {V S K : Type 0} (keys : KeyRules S K) (rules : HostRules V) where
   abbrev pub BeginsNoSearch : Type 0
   BeginsNoSearch = (v : Prompted V S) (event : EventView) (cut : Cut) → v.lines ≡ [] → v.going.searching ≡ false
       → begins_search (or_default ((prompt_rules keys rules).resolve v event cut).action event) ≡ false
+
+  -- outside of a search a line is accepted only if it is valid, whoever accepts it
+  abbrev pub AcceptsValid : Type 0
+  AcceptsValid = (v : Prompted V S) (event : EventView) (cut : Cut) → v.going.searching ≡ false
+      → or_default ((prompt_rules keys rules).resolve v event cut).action event ≡ Some AcceptLine → v.judges (event_line v.going cut).line ≡ Valid

@@ -1,9 +1,10 @@
 //! What follows from the definitions.
 
 ghost use Rattle.tw_host.specs.Faithful.{IsFaithful};
+ghost use Rattle.tw_prompt_host.specs.MenuKeys.{MenuKeysAreDistinct};
 ghost use Rattle.tw_prompt_host.specs.Nesting.{BracketedIsWhole, JoinedIsWhole, PlainIsWhole, QuotedIsWhole};
 ghost use Rattle.tw_prompt_host.specs.Prepared.{prepared_rules};
-ghost use Rattle.tw_prompt_host.specs.PromptRules.{BeginsNoSearch, GivesLineBack, KeepsLineOfSearch, PromptHasWatch};
+ghost use Rattle.tw_prompt_host.specs.PromptRules.{AcceptsValid, BeginsNoSearch, GivesLineBack, KeepsLineOfSearch, PromptHasWatch};
 ghost use Rattle.tw_prompt_host.specs.Rows.{ElementsAreSpread, OneRowIsSettled, PrintableCutIsShown, PrintableIsShown, PrintableIsSpread};
 
 use tw_host::LineEditorHost;
@@ -23,6 +24,18 @@ pub fn given_up<H: LineEditorHost, K: KeyPart>()
     ensures kept { KeepsLineOfSearch K.keys H.rules }
     ensures back { GivesLineBack K.keys H.rules }
     ensures empty { BeginsNoSearch K.keys H.rules }
+{}
+
+/// A line is accepted only if the validator says at that event that it is valid; but a search's line that was found is
+/// not asked about.
+#[tactic(auto, using(crate::proofs::AcceptLemmas::accepts_valid))]
+pub fn accepted<H: LineEditorHost, K: KeyPart>()
+    ensures { AcceptsValid K.keys H.rules }
+{}
+
+/// No key of an open menu stands in two rows.
+pub fn menu_table()
+    ensures { MenuKeysAreDistinct }
 {}
 
 /// A line of one row is shown as on a screen without rows. The text of elements that are shown in rows is their text in

@@ -1,10 +1,10 @@
 //! The layout of a menu: candidates in columns, one of them marked.
 
-ghost use Rattle.std.specs.Prelude.{◌≡◌, ◌<◌, IfOk, map, string_bytes, length};
+ghost use Rattle.std.specs.Prelude.{◌≡◌, ◌<◌, ◌≤◌, IfOk, map, string_bytes, length};
 ghost use Rattle.tw_host.specs.CandidateView.{candidate_view};
 ghost use Rattle.tw_host.specs.ElementView.{element_view};
 ghost use Rattle.tw_input.specs.EventView.{event_view};
-ghost use Rattle.tw_prompt_host.specs.MenuLayout.{filled_cell, gap, menu_cell, menu_page, menu_texts, more_row, page_len, reverse_style, row_len, style_after, widest};
+ghost use Rattle.tw_prompt_host.specs.MenuLayout.{filled_cell, gap, menu_cell, menu_page, menu_page_len, menu_row, menu_texts, more_row, page_len, reverse_style, row_len, style_after, widest};
 
 use std::alloc::{AllocError, Global};
 use tw_host::{CompletionCandidate, OutputElement, plain_element};
@@ -68,6 +68,19 @@ fn page_len(in_row: usize, rows: usize, count: usize) -> usize
     ensures some { 0 < count → 0 < result }
 {
     in_row.saturating_mul(rows.max(1)).min(count)
+}
+
+/// Returns the number of candidates in a row, and on a page.
+pub fn row_and_page(style: MenuStyle, candidates: &[CompletionCandidate]) -> (usize, usize)
+    requires { 0 < length candidates.now }
+    ensures row { result.0 ≡ menu_row style (map candidate_view candidates.now) }
+    ensures page { result.1 ≡ menu_page_len style (map candidate_view candidates.now) }
+    ensures some { 0 < result.0 }
+    ensures within { (result.0 ≤ length candidates.now) × (result.1 ≤ length candidates.now) }
+{
+    let row = row_len(style.cols, widest(candidates));
+    let page = page_len(row, style.rows, candidates.len());
+    (row.min(candidates.len()), page)
 }
 
 /// Pads a text with spaces to `width` columns.

@@ -25,6 +25,7 @@ pub mod laws;
 mod layout;
 mod marks;
 mod menu;
+mod menu_keys;
 mod nested_lines;
 mod nesting;
 mod plain;

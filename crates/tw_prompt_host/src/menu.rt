@@ -1,24 +1,21 @@
 //! The menu of a completion.
 
-ghost use Rattle.std.specs.Prelude.{◌≡◌, map, option_map, unwrap_or, IfOk};
+ghost use Rattle.std.specs.Prelude.{◌≡◌, ◌<◌, ◌≤◌, length, map, option_map, unwrap_or, IfOk};
 ghost use Rattle.tw_host.specs.CandidateView.{candidate_view};
 ghost use Rattle.tw_input.specs.EventView.{event_view};
 ghost use Rattle.tw_key_parts.specs.EditView.{lent_action};
 ghost use Rattle.tw_key_parts.specs.Ring.{is_same_cut};
-ghost use Rattle.tw_prompt_host.specs.Menu.{chosen_of, is_menu_open, menu_after, menu_begun, stepped, turn_line, turn_view, turned};
+ghost use Rattle.tw_prompt_host.specs.Menu.{chosen_at, chosen_of, is_menu_open, menu_after, menu_begun, turn_line, turn_view, turned};
+ghost use Rattle.tw_prompt_host.specs.MenuKeys.{above, below, walked_to};
 
+use crate::layout::{MenuStyle, row_and_page};
+use crate::menu_keys::{MenuKey, menu_key};
 use std::alloc::{AllocError, Global};
 use std::marker::Model;
 use tw_host::{Action, CompletionCandidate, copy_candidates};
-use tw_input::{InputEvent, KeyCode, KeyEvent, Modifiers};
-use tw_key_parts::{is_key, is_same_cut};
+use tw_input::InputEvent;
+use tw_key_parts::is_same_cut;
 use tw_line::LineEditBuffer;
-
-/// Goes back through the candidates.
-const BACK: KeyEvent = KeyEvent {
-    key: KeyCode::Tab,
-    modifiers: Modifiers::SHIFT,
-};
 
 /// The candidates of a completion that is over.
 #[derive(Debug, Drop)]
@@ -63,18 +60,64 @@ impl OpenMenu {
         copy_candidates(alloc, &self.candidates[self.chosen..self.chosen + 1])
     }
 
-    /// Chooses the next candidate, or goes back to the one before. The first one comes after the last.
-    fn step(&mut self, back: bool)
-        ensures { self.new ≡ stepped back self.old }
+    /// Chooses the candidate at an index, or the last one if there are fewer.
+    fn choose(&mut self, index: usize)
+        ensures { self.new ≡ chosen_at index self.old }
     {
-        let count = self.candidates.len();
-        self.chosen = if !back {
-            (self.chosen + 1) % count
-        } else if self.chosen == 0 {
-            count - 1
+        self.chosen = index.min(self.candidates.len() - 1);
+    }
+
+    /// Returns the index below the chosen candidate, or that of the top of the next column, in rows of `row` candidates.
+    fn below(&self, row: usize) -> usize
+        requires some { 0 < row }
+        requires within { row ≤ length self.now.candidates }
+        ensures { result ≡ below row self.now }
+    {
+        let next = self.chosen % row + 1;
+        if self.chosen + row < self.candidates.len() {
+            self.chosen + row
+        } else if next < row {
+            next
+        } else {
+            0
+        }
+    }
+
+    /// Returns the index above the chosen candidate, or that of the end of the column before, in rows of `row`
+    /// candidates.
+    fn above(&self, row: usize) -> usize
+        requires some { 0 < row }
+        requires within { row ≤ length self.now.candidates }
+        ensures { result ≡ above row self.now }
+    {
+        if self.chosen >= row {
+            return self.chosen - row;
+        }
+        let column = if self.chosen == 0 {
+            row - 1
         } else {
             self.chosen - 1
         };
+        let last = self.candidates.len() - 1;
+        last - (last - column) % row
+    }
+
+    /// Returns the index to which a key leads, if it walks through the candidates.
+    fn walked_to(&self, style: MenuStyle, key: MenuKey) -> Option<usize>
+        ensures { result ≡ walked_to style key self.now }
+    {
+        let count = self.candidates.len();
+        let (row, page) = row_and_page(style, &self.candidates);
+        match key {
+            MenuKey::Next => Some((self.chosen + 1) % count),
+            MenuKey::Previous if self.chosen == 0 => Some(count - 1),
+            MenuKey::Previous => Some(self.chosen - 1),
+            MenuKey::Below => Some(self.below(row)),
+            MenuKey::Above => Some(self.above(row)),
+            MenuKey::PageDown => Some(self.chosen + page),
+            MenuKey::PageUp => Some(self.chosen.saturating_sub(page)),
+            MenuKey::Takes | MenuKey::GivesUp => None,
+        }
     }
 }
 
@@ -94,11 +137,8 @@ pub enum Menu {
 /// Where an event leads a menu.
 #[derive(Debug, Drop)]
 pub enum Turn {
-    /// Chooses the next candidate of an open menu, or goes back to the one before.
-    Step {
-        /// True if it goes back.
-        back: bool,
-    },
+    /// Chooses the candidate of an open menu at this index, or the last one.
+    Step(usize),
     /// Begins a completion.
     Begins(Menu),
 }
@@ -126,22 +166,18 @@ impl Menu {
         }
     }
 
-    /// Returns where an event leads a menu: an open one goes on or back, or else the one begins that is given.
-    pub fn turn(
-        &self,
-        event: &InputEvent,
-        action: Option<&Action>,
-        begun: Option<Menu>,
-    ) -> Option<Turn>
+    /// Returns where an event leads a menu: its keys walk through an open one, or else the one begins that is given.
+    pub fn turn(&self, style: MenuStyle, event: &InputEvent, begun: Option<Menu>) -> Option<Turn>
         ensures { option_map (turn_view self.now) result
-            ≡ turned begun (event_view event.now) (lent_action action.entry) self.now }
+            ≡ turned style begun (event_view event.now) self.now }
     {
-        if !self.is_open() {
-            return begun.map(|menu| Turn::Begins(menu));
+        match self {
+            Menu::Open(menu) => {
+                let to = menu.walked_to(style, menu_key(event)?)?;
+                Some(Turn::Step(to))
+            }
+            _ => begun.map(|menu| Turn::Begins(menu)),
         }
-        let back = is_key(BACK, event);
-        let steps = back || matches!(action, Some(Action::Complete));
-        steps.then_some(Turn::Step { back })
     }
 
     /// Returns a copy of the line on which the editor completes when the menu turns.
@@ -154,8 +190,9 @@ impl Menu {
             ≡ turn_line (option_map (λ turn. turn_view self.now turn.now) turn.entry)) }
     {
         match (turn, self) {
-            (Some(Turn::Step { .. }), Menu::Open(menu))
-            | (Some(Turn::Begins(Menu::Open(menu))), _) => { Ok(Some(menu.line.try_clone(alloc)?)) }
+            (Some(Turn::Step(_)), Menu::Open(menu)) | (Some(Turn::Begins(Menu::Open(menu))), _) => {
+                Ok(Some(menu.line.try_clone(alloc)?))
+            }
             _ => Ok(None),
         }
     }
@@ -172,9 +209,9 @@ impl Menu {
             (menu_after (is_same_cut before.now after.now) (lent_action action.entry) self.old) }
     {
         match (turn, action) {
-            (Some(Turn::Step { back }), _) => {
+            (Some(Turn::Step(index)), _) => {
                 if let Menu::Open(menu) = self {
-                    menu.step(back);
+                    menu.choose(index);
                 }
             }
             (Some(Turn::Begins(menu)), _) => *self = menu,

@@ -26,6 +26,7 @@ use crate::going::{Going, ends_search};
 use crate::hint::{Hints, hint_row, history_hint, is_taking, part_taken};
 use crate::layout::{MenuStyle, menu_page};
 use crate::menu::{Menu, Turn};
+use crate::menu_keys::{edit_in_menu, menu_key};
 use crate::rows::Rows;
 use crate::validator::{Validation, Validator};
 use std::alloc::{AllocError, Global};
@@ -169,8 +170,8 @@ impl<H: LineEditorHost, L: History + LentLines, K: KeyPart, V: Validator> Prompt
         }))
     }
 
-    /// Returns the edit of an event without the menu. One that ends a search leaves it, and one that cancels has the
-    /// line from before it.
+    /// Returns the edit of an event. One that ends a search leaves it, and one that cancels has the line from before
+    /// it. An open menu has its keys before all others.
     fn edit_at(
         &self,
         alloc: Global,
@@ -200,6 +201,12 @@ impl<H: LineEditorHost, L: History + LentLines, K: KeyPart, V: Validator> Prompt
                 action: Action::Cancel,
                 note: None,
             }));
+        }
+        if !self.going.searching
+            && let Menu::Open(menu) = &self.going.menu
+            && let Some(key) = menu_key(event)
+        {
+            return edit_in_menu::<K>(alloc, key, menu);
         }
         self.line_edit(alloc, event, default, line)
     }
@@ -463,7 +470,7 @@ impl<H: LineEditorHost, L: History + LentLines, K: KeyPart, V: Validator> LineEd
         let edit = self.edit_at(alloc, event, key, &before)?;
         let fails = self.fails_after(alloc, chosen::<K>(event, &edit, key), &before)?;
         let begun = self.begun(alloc, key, &before)?;
-        let turn = self.going.menu.turn(event, key, begun);
+        let turn = self.going.menu.turn(self.menu, event, begun);
         let original = self.going.menu.line_of(alloc, turn.as_ref())?;
         self.keys.prepare(alloc, &before)?;
         let own = self.ask_host(alloc, event, &before, editor)?;

@@ -1,12 +1,15 @@
 -- What is sent for redrawings that follow one another.
 use Rattle.std.proofs.Common.{◌≡◌, ◌+◌, ◌-◌, ◌*◌, ◌/◌, ◌%◌, ℕ, zero, suc, max, Bool, leb, ltb, Option, Some, None, Result, Ok, Err, OnErr, true, false, cond, List, [], ◌∷◌, ◌++◌, append_assoc, append-nil, ap, subst, ◌∙◌, sym, refl, arith, ◌&&◌, ◌<◌, ◌≤◌}
-use Rattle.std.proofs.lemmas.Bool.{and_parts, leb-true, le-leb, lt-leb}
+use Rattle.std.proofs.lemmas.Bool.{le-leb, lt-leb}
+use Rattle.std.proofs.lemmas.Str.{encode_ascii}
 use Rattle.std.proofs.Math.Nat.{div-lt_iff_lt-mul, mod-lt}
+use Rattle.std.specs.Prelude.{encode_utf8}
 use Rattle.unicode_segmentation.specs.Grapheme.{graphemes}
-use Rattle.tw_surface.specs.Characters.{is_plain, is_printable}
+use Rattle.tw_surface.specs.Characters.{is_plain}
 use Rattle.tw_surface.specs.ChangeView.{Batch, Text}
 use Rattle.tw_ansi.specs.declared.encode.Encoder.{Encoder}
 use Rattle.tw_ansi.specs.Encoding.{Sent, sent_byte, terse_batch, sent_plain, sent_clusters, ExtendsBytes}
+use Rattle.tw_sparing.specs.SingleCharacters.{IsSingle, number_bytes}
 use Rattle.tw_sparing.specs.declared.hand.Hand.{Hand}
 use Rattle.tw_sparing.specs.declared.redrawer.Redrawer.{Redrawer}
 use Rattle.laws_screens.specs.StyledCells.{StyledCell}
@@ -14,7 +17,6 @@ use Rattle.tw_sparing.specs.Redrawings.{Redrawing, at_ease, redraw_then, span_re
 use Rattle.tw_sparing.specs.Differences.{end_of}
 use Rattle.tw_sparing.specs.Sending.{IsAdded}
 use Rattle.tw_sparing.proofs.SentBatches.{both_next, both_bytes}
-use Rattle.tw_sparing.proofs.SentChanges.{printable_plain}
 use Rattle.tw_sparing.proofs.TypedCells.{inside_row}
 
 -- one after the other
@@ -90,9 +92,6 @@ module _ (reached row col last : ℕ) (a : Redrawer) (x : List ℕ) (is_last : l
 
 -- ---- a character
 
-pub printable_small : (b : ℕ) → is_printable b ≡ true → b ≤ 126
-printable_small b is = leb-true b 126 (and_parts _ _ is).1
-
 typed_is : (b : ℕ) (e : Encoder) → is_plain b ≡ true
     → ((terse_batch (Text (b ∷ []) ∷ []) e).bytes ≡ (sent_byte e b).bytes) × ((terse_batch (Text (b ∷ []) ∷ []) e).next ≡ (sent_byte e b).next)
 typed_is b e plain =
@@ -101,6 +100,12 @@ typed_is b e plain =
       ap (λ x. (cond (x && true) one other).bytes ++ []) plain ∙ append-nil ((sent_byte e b).bytes ++ []) ∙ append-nil (sent_byte e b).bytes,
       ap (λ x. (cond (x && true) one other).next) plain,
     )
+
+-- a character of ASCII
+pub ascii_added : (c : ℕ) (e : Encoder) → c < 128 → is_plain c ≡ true
+    → ((terse_batch (Text (encode_utf8 c) ∷ []) e).bytes ≡ (sent_byte e c).bytes) × ((terse_batch (Text (encode_utf8 c) ∷ []) e).next ≡ (sent_byte e c).next)
+ascii_added c e low plain =
+    subst (λ l. ((terse_batch (Text l ∷ []) e).bytes ≡ (sent_byte e c).bytes) × ((terse_batch (Text l ∷ []) e).next ≡ (sent_byte e c).next)) (sym (encode_ascii c low)) (typed_is c e plain)
 
 pub feed_added : (a : Redrawer) (next : Encoder) (x y : List ℕ) → y ≡ x ++ (sent_byte a.encoder 10).bytes → next ≡ (sent_byte a.encoder 10).next
     → IsAdded (fed_once a.hand) a x (record { hand = (fed_once a.hand).hand; encoder = next }) y
@@ -123,13 +128,17 @@ pub extends_more : (before x y more : List ℕ) → ExtendsBytes before x → y 
 extends_more before x y more (first, e) then = (first ++ more, then ∙ ap (λ v. v ++ more) e ∙ append_assoc before first more)
 
 -- a cell is typed where the cursor stands before it
-pub cell_added : (w index : ℕ) (cells : ℕ → ℕ → StyledCell) (x : StyledCell) (a b : Redrawer) (next : Encoder) (x0 x1 x2 : List ℕ) → x ≡ indexed w cells index
-    → is_printable x.ch ≡ true → IsAdded (under x.attributes a.hand) a x0 b x1 → x2 ≡ x1 ++ (sent_byte b.encoder x.ch).bytes → next ≡ (sent_byte b.encoder x.ch).next
+pub cell_added : (w index : ℕ) (cells : ℕ → ℕ → StyledCell) (x : StyledCell) (bytes : List ℕ) (a b : Redrawer) (next : Encoder) (x0 x1 x2 : List ℕ) → x ≡ indexed w cells index → bytes ≡ number_bytes x.ch
+    → IsAdded (under x.attributes a.hand) a x0 b x1 → x2 ≡ x1 ++ (terse_batch (Text bytes ∷ []) b.encoder).bytes → next ≡ (terse_batch (Text bytes ∷ []) b.encoder).next
     → IsAdded (cell_redrawn w cells index a.hand) a x0 (record { hand = record b.hand { row = index / w; col = index % w + 1 }; encoder = next }) x2
-cell_added w index cells x a b next x0 x1 x2 is printable first bytes known =
+cell_added w index cells x bytes a b next x0 x1 x2 is typed first sent known =
     subst (λ y. IsAdded (redraw_then (under y.attributes a.hand) (typed_in_cell w index y.ch)) a x0 (record { hand = record b.hand { row = index / w; col = index % w + 1 }; encoder = next }) x2) is
     (added_both (under x.attributes a.hand) (typed_in_cell w index x.ch) a b _ x0 x1 x2 first
-    (let same = typed_is x.ch b.encoder (printable_plain x.ch printable) in record { bytes = bytes ∙ ap (λ v. x1 ++ v) (sym same.0); next = known ∙ sym same.1; hand = refl }))
+    (record {
+      bytes = sent ∙ ap (λ l. x1 ++ (terse_batch (Text l ∷ []) b.encoder).bytes) typed;
+      next = known ∙ ap (λ l. (terse_batch (Text l ∷ []) b.encoder).next) typed;
+      hand = refl;
+    }))
 
 pub cells_step : (w i to : ℕ) (cells : ℕ → ℕ → StyledCell) (a b old : Redrawer) (x y before : List ℕ) (all : Redrawing) → i < to
     → SameEnd (cells_redrawn w cells i (to - i) a.hand) a x all old before → IsAdded (cell_redrawn w cells i a.hand) a x b y
@@ -147,13 +156,13 @@ cells_end w i to cells a old x before all done same =
     same_added a old x before all (subst (λ n. SameEnd (cells_redrawn w cells i n a.hand) a x all old before) (let e : to - i ≡ 0 = omega (arith, done) in e) same)
 
 -- the cells of a row, by their indices
-pub row_printable : (w v r first last : ℕ) (cells : ℕ → ℕ → StyledCell) → v ≡ w → last < w → ((j : ℕ) → j < w → is_printable (cells r j).ch ≡ true)
-    → (m : ℕ) → r * v + first ≤ m → m < r * v + last + 1 → is_printable (indexed w cells m).ch ≡ true
-row_printable w v r first last cells is_v left printable m from to =
+pub row_single : (w v r first last : ℕ) (cells : ℕ → ℕ → StyledCell) → v ≡ w → last < w → ((j : ℕ) → j < w → IsSingle (cells r j).ch)
+    → (m : ℕ) → r * v + first ≤ m → m < r * v + last + 1 → IsSingle (indexed w cells m).ch
+row_single w v r first last cells is_v left single m from to =
     let start : r * v ≡ r * w = ap (λ n. r * n) is_v in
     let at : r * w + (m - r * w) ≡ m = omega (arith, from, start) in
     let place = inside_row w m r (m - r * w) at (omega (arith, to, start, left)) in
-    ap (λ i. is_printable (cells i (m % w)).ch) place.0 ∙ ap (λ j. is_printable (cells r j).ch) place.1 ∙ printable (m - r * w) (omega (arith, to, start, left))
+    subst (λ i. IsSingle (cells i (m % w)).ch) (sym place.0) (subst (λ j. IsSingle (cells r j).ch) (sym place.1) (single (m - r * w) (omega (arith, to, start, left))))
 
 -- those that differ
 pub span_added : (w v r first last : ℕ) (cells : ℕ → ℕ → StyledCell) (a b c : Redrawer) (x y z : List ℕ) → v ≡ w → IsAdded (led_to r first a.hand) a x b y
@@ -189,11 +198,11 @@ going_added w reached from end new to a b c x y z is_from first last =
     (subst (λ n. IsAdded (cells_redrawn w new n (end - n) a.hand) a x b y) is_from first) last
 
 -- the cells of some rows, by their indices
-pub rows_printable : (w rows end : ℕ) (cells : ℕ → ℕ → StyledCell) → end ≤ rows * w → ((i : ℕ) → i < rows → (j : ℕ) → j < w → is_printable (cells i j).ch ≡ true)
-    → (m : ℕ) → m < end → is_printable (indexed w cells m).ch ≡ true
-rows_printable w rows end cells within printable m low =
+pub rows_single : (w rows end : ℕ) (cells : ℕ → ℕ → StyledCell) → end ≤ rows * w → ((i : ℕ) → i < rows → (j : ℕ) → j < w → IsSingle (cells i j).ch)
+    → (m : ℕ) → m < end → IsSingle (indexed w cells m).ch
+rows_single w rows end cells within single m low =
     let wide : 0 < w = wide_by w (omega (arith, low, within)) in
-    printable (m / w) ((div-lt_iff_lt-mul wide).1 (omega (arith, low, within))) (m % w) (mod-lt m wide)
+    single (m / w) ((div-lt_iff_lt-mul wide).1 (omega (arith, low, within))) (m % w) (mod-lt m wide)
   where
     wide_by : (v : ℕ) → m < rows * v → 0 < v
     wide_by zero some = absurd (omega (arith, some))

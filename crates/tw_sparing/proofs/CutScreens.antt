@@ -2,11 +2,11 @@
 use Rattle.std.proofs.Common.{◌≡◌, ◌+◌, ◌-◌, ◌*◌, ℕ, drop, ap, subst, ◌∙◌, sym, arith}
 use Rattle.std.proofs.Math.Nat.{add-mul, zero-mul}
 use Rattle.std.proofs.lemmas.List.{get_or-drop}
-use Rattle.std.specs.Prelude.{slice_index_or, true}
-use Rattle.tw_surface.specs.Characters.{is_printable}
+use Rattle.std.specs.Prelude.{slice_index_or}
 use Rattle.laws_screens.specs.StyledCells.{StyledCell}
+use Rattle.tw_sparing.specs.SingleCharacters.{IsSingle}
 use Rattle.tw_sparing.specs.StyledScreens.{StyledView, styled_cell, without_rows}
-use Rattle.tw_sparing.specs.Sending.{screen_cells, changes_between, IsPrintable}
+use Rattle.tw_sparing.specs.Sending.{screen_cells, changes_between, IsTypable}
 use Rattle.tw_sparing.specs.declared.shown.Shown.{Shown}
 use Rattle.tw_sparing.specs.Shown.{changes_below}
 
@@ -18,9 +18,9 @@ cut_cells top screen r c =
     ap styled_cell (get_or-drop (top * screen.width) screen.cells (r * screen.width + c) screen.rest
     ∙ ap (λ k. slice_index_or screen.cells k screen.rest) (omega (arith, add_rows top r screen.width)))
 
-pub cut_printable : (top rows : ℕ) (screen : StyledView) → IsPrintable rows screen → IsPrintable (rows - top) (without_rows top screen)
-cut_printable top rows screen printable i low j left =
-    subst (λ (x : StyledCell). is_printable x.ch ≡ true) (sym (cut_cells top screen i j)) (printable (top + i) (omega (arith, low)) j left)
+pub cut_typable : (top rows : ℕ) (screen : StyledView) → IsTypable rows screen → IsTypable (rows - top) (without_rows top screen)
+cut_typable top rows screen typable i low j left =
+    subst (λ (x : StyledCell). IsSingle x.ch) (sym (cut_cells top screen i j)) (typable (top + i) (omega (arith, low)) j left)
 
 -- what differs of two cut screens, by what they are
 pub same_changes : (old new : Shown) (old_top top reached rows : ℕ) (before after : StyledView) → reached ≡ old.reached - old_top → rows ≡ new.reached - top

@@ -8,7 +8,7 @@ use Rattle.tw_sparing.specs.Differences.{blank_cell}
 use Rattle.tw_sparing.specs.declared.hand.Hand.{Hand}
 use Rattle.tw_sparing.specs.Redrawings.{Redrawing, redraw_then, sunk_to, under, handed_to, rest_of, rest_emptied, left_of, lowered, rows_redrawn, rows_drawn_on}
 use Rattle.tw_sparing.proofs.DrawnRows.{Holds, Leads, redrawn_on, redrawn_both, kept_both, leads_both, rows_inside, is_under}
-use Rattle.tw_sparing.specs.Sending.{ArePrintable}
+use Rattle.tw_sparing.specs.Sending.{AreSingle}
 use Rattle.tw_sparing.proofs.DrawnScreens.{rows_drawn}
 use Rattle.tw_sparing.proofs.DrawnEnds.{ShowsFrom, sinks, rest, rises}
 
@@ -65,10 +65,10 @@ module _ (h w : ℕ) where
 
   pub becomes : (s reached rows : ℕ) (old new : ℕ → ℕ → StyledCell) (to hand : Hand) (p : PictureOf StyledCell)
       → 0 < w → rows ≤ h → s + reached ≤ h → p.row < h → to.row < rows → to.col < w
-      → ((i j : ℕ) → rows ≤ i → old i j ≡ blank_cell) → ((i j : ℕ) → rows ≤ i → new i j ≡ blank_cell) → ((i : ℕ) → i < rows → ArePrintable w (new i))
+      → ((i j : ℕ) → rows ≤ i → old i j ≡ blank_cell) → ((i j : ℕ) → rows ≤ i → new i j ≡ blank_cell) → ((i : ℕ) → i < rows → AreSingle w (new i))
       → ShowsFrom h w s old p → Holds s hand p
       → Becomes s (s - (s + rows - h)) new to hand (rows_drawn_on w reached rows old new to hand) p
-  becomes s reached rows old new to hand p some most low inside to_row to_col old_blank new_blank printable is_old holds =
+  becomes s reached rows old new to hand p some most low inside to_row to_col old_blank new_blank single is_old holds =
       let t : ℕ = s - (s + rows - h) in
       let last : Hand → Redrawing = handed_to (max reached rows) to in
       let third : Hand → Redrawing = λ rest. redraw_then (rows_redrawn w (left_of w (rest_of w rows old new) old) new 0 rows rest) last in
@@ -82,7 +82,7 @@ module _ (h w : ℕ) where
       let a2 = rest h w (s - (s + rows - h)) rows old new d1.hand p1 some room a1.shown a1.leads.holds in
       let d3 : Redrawing = rows_redrawn w (left_of w (rest_of w rows old new) old) new 0 rows d2.hand in
       let p3 : PictureOf StyledCell = redrawn_on h w d2.hand d3 p2 in
-      let a3 = rows_drawn h w (s - (s + rows - h)) 0 rows (left_of w (rest_of w rows old new) old) new d2.hand p2 (omega (arith, room)) (λ i from less. printable i (omega (arith, less))) (λ i j from less left. a2.shown i j left) a2.leads.holds in
+      let a3 = rows_drawn h w (s - (s + rows - h)) 0 rows (left_of w (rest_of w rows old new) old) new d2.hand p2 (omega (arith, room)) (λ i from less. single i (omega (arith, less))) (λ i j from less left. a2.shown i j left) a2.leads.holds in
       let d4 : Redrawing = handed_to (max reached rows) to d3.hand in
       let p4 : PictureOf StyledCell = redrawn_on h w d3.hand d4 p3 in
       let inside1 : p1.row < h = rows_inside h w (strokes_of styled hand.attributes d1.changes) p inside in

@@ -1,19 +1,17 @@
 -- Rows that are drawn.
-use Rattle.std.proofs.Common.{◌≡◌, ◌<◌, ◌≤◌, ◌+◌, ◌-◌, ◌&&◌, ℕ, ℤ, pos, negsuc, ◌+ℤ◌, ◌-ℤ◌, Bool, true, false, cond, eqb, min, Some, List, [], ◌∷◌, ◌++◌, ap, subst, ◌∙◌, sym, refl, arith}
-use Rattle.std.proofs.lemmas.Bool.{eq-eqb, ne_eqb, eqb-true, and_parts, leb-true}
+use Rattle.std.proofs.Common.{◌≡◌, ◌<◌, ◌+◌, ◌-◌, ◌&&◌, ℕ, ℤ, pos, negsuc, ◌+ℤ◌, ◌-ℤ◌, Bool, true, false, cond, eqb, min, Some, List, [], ◌∷◌, ◌++◌, ap, subst, ◌∙◌, sym, refl, arith}
+use Rattle.std.proofs.lemmas.Bool.{eq-eqb, ne_eqb, eqb-true, and_parts}
 use Rattle.std.proofs.lemmas.Int.{ints}
 use Rattle.tw_surface.specs.declared.cell.CellAttributes.{CellAttributes}
 use Rattle.tw_surface.specs.contracts.cell.CellAttributesPartialEq.TheImpl.{ghosts as attributes}
 use Rattle.tw_surface.proofs.EqualityLemmas.{attributes_equal}
-use Rattle.tw_surface.specs.Characters.{is_printable}
 use Rattle.tw_surface.specs.ChangeView.{Batch}
 use Rattle.tw_surface.specs.ChangeView.{AllAttributes, CursorPosition}
 use Rattle.tw_surface.specs.declared.change.Position.TheVariants.{Absolute, Relative}
 use Rattle.tw_surface.specs.Positions.{at_least_0}
 use Rattle.laws_screens.specs.Strokes.{PictureOf, Stroke, put_in, step, steps_on, scrolled}
-use Rattle.laws_screens.specs.Strokes.Stroke.{Put, Return, Feed}
 use Rattle.laws_screens.proofs.SeenRows.{steps_on-append}
-use Rattle.laws_screens.specs.Pens.{strokes_of, change_strokes, kept_after, kept_after_all, char_stroke}
+use Rattle.laws_screens.specs.Pens.{strokes_of, change_strokes, kept_after, kept_after_all}
 use Rattle.laws_screens.specs.StyledCells.{StyledCell, styled}
 use Rattle.laws_screens.proofs.DrawnChanges.{strokes-append, kept-append}
 use Rattle.tw_ansi.specs.EcmaBatches.{StaysInRows, AllStayInRows}
@@ -188,15 +186,7 @@ module _ (h w : ℕ) where
   pub is_under : (s : ℕ) (to : CellAttributes) (hand : Hand) (p : PictureOf StyledCell) → Holds s hand p → Under s to hand (under to hand) p
   is_under s to hand p holds = under_cases s to hand p holds (attributes.eq hand.attributes to) refl
 
-  -- ---- characters
-
-  -- a printable character is put
-  pub put_stroke : (a : CellAttributes) (ch : ℕ) → is_printable ch ≡ true → char_stroke styled a ch ≡ Put (record { ch = ch; attributes = a } ∷ [])
-  put_stroke a ch printable =
-      let low : 32 ≤ ch = leb-true 32 ch (and_parts _ _ printable).0 in
-      let cell : Stroke StyledCell = Put (record { ch = ch; attributes = a } ∷ []) in
-      let feed : Stroke StyledCell = cond (eqb ch 10) Feed cell in
-      ap (λ x. cond x Return feed) (ne_eqb ch 13 (λ e. omega arith)) ∙ ap (λ x. cond x Feed cell) (ne_eqb ch 10 (λ e. omega arith))
+  -- ---- cells
 
   -- the picture with a cell at its cursor, which goes on
   abbrev pub put_here : StyledCell → PictureOf StyledCell → PictureOf StyledCell

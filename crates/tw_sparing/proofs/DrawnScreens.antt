@@ -1,7 +1,7 @@
 -- A picture whose rows are drawn where they differ is the new one.
 use Rattle.std.proofs.Common.{◌≡◌, ◌<◌, ◌≤◌, ◌+◌, ◌-◌, ◌*◌, ℕ, zero, suc, false, Some, ap, ◌∙◌, sym, refl, inl, inr, arith}
 use Rattle.std.proofs.lemmas.Bool.{cases_eq, cases_lt, false≢true}
-use Rattle.tw_sparing.specs.Sending.{ArePrintable}
+use Rattle.tw_sparing.specs.Sending.{AreSingle}
 use Rattle.tw_line.specs.Extremes.{IsLeast, IsGreatest}
 use Rattle.laws_screens.specs.Strokes.{PictureOf}
 use Rattle.laws_screens.specs.StyledCells.{StyledCell}
@@ -19,7 +19,7 @@ module _ (h w : ℕ) where
     pub inside : (j : ℕ) → j < w → (redrawn_on h w hand d p).cell (s + r) j ≡ line j
     pub others : (i j : ℕ) → (i ≡ s + r → ⊥) → (redrawn_on h w hand d p).cell i j ≡ p.cell i j
 
-  module _ (s r : ℕ) (old : ℕ → StyledCell) (new : ℕ → ℕ → StyledCell) (hand : Hand) (p : PictureOf StyledCell) (low : s + r < h) (printable : ArePrintable w (new r))
+  module _ (s r : ℕ) (old : ℕ → StyledCell) (new : ℕ → ℕ → StyledCell) (hand : Hand) (p : PictureOf StyledCell) (low : s + r < h) (single : AreSingle w (new r))
       (is_old : (j : ℕ) → j < w → p.cell (s + r) j ≡ old j) (holds : Holds s hand p) where
     -- a row that does not differ
     unchanged : ((j : ℕ) → j < w → differ_in old (new r) j ≡ false) → RowDrawn s r (new r) hand (at_ease hand) p
@@ -39,7 +39,7 @@ module _ (h w : ℕ) where
         let n : ℕ = last + 1 - first in
         let in_order : first ≤ last = ordered in
         let b = run_typed h w (omega (arith, least.high)) s r first (last + 1 - first) new move.hand q low (omega (arith, greatest.high, in_order))
-        (λ j from to. printable j (omega (arith, to, greatest.high, in_order))) g.row g.col g.leads.holds in
+        (λ j from to. single j (omega (arith, to, greatest.high, in_order))) g.row g.col g.leads.holds in
         let run : Hand → Redrawing = cells_redrawn w new (r * w + first) (last + 1 - first) in
         let is = redrawn_both h w hand move run p g.leads.kept in
         let end : PictureOf StyledCell = redrawn_on h w move.hand (run move.hand) q in
@@ -83,20 +83,20 @@ module _ (h w : ℕ) where
     pub below : (i j : ℕ) → s + (r + n) ≤ i → (redrawn_on h w hand d p).cell i j ≡ p.cell i j
 
   pub rows_drawn : (s r n : ℕ) (old new : ℕ → ℕ → StyledCell) (hand : Hand) (p : PictureOf StyledCell) → s + (r + n) ≤ h
-      → ((i : ℕ) → r ≤ i → i < r + n → ArePrintable w (new i))
+      → ((i : ℕ) → r ≤ i → i < r + n → AreSingle w (new i))
       → ((i j : ℕ) → r ≤ i → i < r + n → j < w → p.cell (s + i) j ≡ old i j) → Holds s hand p
       → RowsDrawn s r n new hand (rows_redrawn w old new r n hand) p
-  rows_drawn s r zero old new hand p low printable is_old holds = record {
+  rows_drawn s r zero old new hand p low single is_old holds = record {
     leads = leads_ease h w s hand p holds;
     inside = λ i j from to left. absurd (omega (arith, from, to));
     above = λ i j to. refl;
     below = λ i j from. refl;
   }
-  rows_drawn s r (suc n) old new hand p low printable is_old holds =
+  rows_drawn s r (suc n) old new hand p low single is_old holds =
       let first : Redrawing = row_redrawn w old new r hand in
-      let a = row_drawn s r (old r) new hand p (omega (arith, low)) (printable r (omega arith) (omega arith)) (λ j left. is_old r j (omega arith) (omega arith) left) holds in
+      let a = row_drawn s r (old r) new hand p (omega (arith, low)) (single r (omega arith) (omega arith)) (λ j left. is_old r j (omega arith) (omega arith) left) holds in
       let q : PictureOf StyledCell = redrawn_on h w hand first p in
-      let b = rows_drawn s (suc r) n old new first.hand q (omega (arith, low)) (λ i from to. printable i (omega (arith, from)) (omega (arith, to)))
+      let b = rows_drawn s (suc r) n old new first.hand q (omega (arith, low)) (λ i from to. single i (omega (arith, from)) (omega (arith, to)))
       (λ i j from to left. a.others (s + i) j (λ e. omega (arith, e, from)) ∙ is_old i j (omega (arith, from)) (omega (arith, to)) left) a.leads.holds in
       let is = redrawn_both h w hand first (rows_redrawn w old new (suc r) n) p a.leads.kept in
       let end : PictureOf StyledCell = redrawn_on h w first.hand (rows_redrawn w old new (suc r) n first.hand) q in

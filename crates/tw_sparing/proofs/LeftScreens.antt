@@ -12,7 +12,7 @@ use Rattle.tw_sparing.specs.declared.shown.Shown.{Shown}
 use Rattle.tw_sparing.specs.Shown.{from_cursor, left_behind, IsStillKnown}
 use Rattle.tw_sparing.specs.ShownTerminals.{IsShownBy}
 use Rattle.tw_sparing.specs.KnownRuns.{IsShownAs}
-use Rattle.tw_sparing.proofs.CutScreens.{cut_cells, cut_printable}
+use Rattle.tw_sparing.proofs.CutScreens.{cut_cells, cut_typable}
 
 -- what is shown is shown from the row of its cursor on
 shown_below : (h w : ℕ) (e : Encoder) (t : EcmaScreen StyledCell) (p : PictureOf StyledCell) (shown : Shown) → IsShownBy h w e t p shown → IsShownBy h w e t p (from_cursor shown)
@@ -30,7 +30,7 @@ shown_below h w e t p shown is =
         row = omega (arith, none);
         low = omega (arith, is.fits.low);
         col = is.fits.col;
-        printable = cut_printable row shown.reached shown.screen is.fits.printable;
+        typable = cut_typable row shown.reached shown.screen is.fits.typable;
         colors = λ i j low in_row. subst (λ (x : StyledCell). AreByBytes x.attributes) (sym (cut_cells row shown.screen i j)) (is.fits.colors (row + i) j (omega (arith, low)) in_row);
         kept = is.fits.kept;
       };

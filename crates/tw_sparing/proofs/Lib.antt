@@ -1,3 +1,4 @@
+pub mod SingleCharacters
 pub mod DrawnCells
 pub mod PlainCells
 pub mod FoundColumns

@@ -10,7 +10,7 @@ use Rattle.laws_screens.specs.StyledCells.{StyledCell, styled}
 use Rattle.tw_sparing.specs.declared.hand.Hand.{Hand}
 use Rattle.tw_sparing.specs.Differences.{differ_in, blank_cell, end_of}
 use Rattle.tw_sparing.specs.Redrawings.{Redrawing, hand_index, indexed, cells_redrawn, goes_onward, gone_onward, handed_to}
-use Rattle.tw_sparing.specs.Sending.{ArePrintable}
+use Rattle.tw_sparing.specs.Sending.{AreSingle}
 use Rattle.tw_sparing.proofs.FoundColumns.{greatest_cases, same_where}
 use Rattle.tw_sparing.proofs.DrawnRows.{Holds, redrawn_on, redrawn_both, kept_both, rows_inside}
 use Rattle.tw_sparing.proofs.DrawnEnds.{ShowsFrom, end_within, blank_at}
@@ -39,7 +39,7 @@ going_on w reached rows old new to hand is =
 
 module _ (h w s reached rows : ℕ) (old new : ℕ → ℕ → StyledCell) (to hand : Hand) (p : PictureOf StyledCell) (some : 0 < w) (most : rows ≤ h) (known : s + reached ≤ h)
     (inside : p.row < h) (edge : hand.col ≤ w) (to_row : to.row < rows) (to_col : to.col < w)
-    (old_blank : (i j : ℕ) → rows ≤ i → old i j ≡ blank_cell) (new_blank : (i j : ℕ) → rows ≤ i → new i j ≡ blank_cell) (printable : (i : ℕ) → i < rows → ArePrintable w (new i))
+    (old_blank : (i j : ℕ) → rows ≤ i → old i j ≡ blank_cell) (new_blank : (i j : ℕ) → rows ≤ i → new i j ≡ blank_cell) (single : (i : ℕ) → i < rows → AreSingle w (new i))
     (is_old : ShowsFrom h w s old p) (holds : Holds s hand p) (goes : GoesOn w reached rows old new to hand) where
   abbrev start : ℕ
   start = hand_index w hand
@@ -64,13 +64,13 @@ module _ (h w s reached rows : ℕ) (old new : ℕ → ℕ → StyledCell) (to h
       let low = limit in
       omega (arith, low, top)
 
-  pub typed_printable : (m : ℕ) → start ≤ m → m < start + count → (m / w < rows) × (m % w < w)
-  typed_printable m from to =
+  pub typed_place : (m : ℕ) → start ≤ m → m < start + count → (m / w < rows) × (m % w < w)
+  typed_place m from to =
       let ends = end_within w rows new in
       ((div-lt_iff_lt-mul some).1 (omega (arith, from, to, ends)), mod-lt m some)
 
   pub typing_goes : WentOn h w some s start count new hand typing p
-  typing_goes = went_on h w some s start count new hand p within edge refl inside (λ m from to. let place = typed_printable m from to in printable (m / w) place.0 (m % w) place.1) holds
+  typing_goes = went_on h w some s start count new hand p within edge refl inside (λ m from to. let place = typed_place m from to in single (m / w) place.0 (m % w) place.1) holds
 
   abbrev top : ℕ
   top = top_after h w some s typing.hand.row

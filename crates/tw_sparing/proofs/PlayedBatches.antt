@@ -1,5 +1,5 @@
 -- Batches that are played one after the other.
-use Rattle.std.proofs.Common.{◌≡◌, ◌+◌, ◌*◌, ◌<◌, ◌≤◌, ℕ, zero, suc, pos, negsuc, max, cond, leb, not, Bool, true, false, Option, Some, List, [], ◌∷◌, ◌++◌, ◌-◌, length, map, drop, take, get_or, ap, subst, ◌∙◌, sym, refl, arith}
+use Rattle.std.proofs.Common.{◌≡◌, ◌+◌, ◌*◌, ◌<◌, ◌≤◌, ℕ, zero, suc, pos, negsuc, max, cond, leb, not, Bool, true, false, Option, Some, List, [], ◌∷◌, ◌++◌, ◌-◌, length, drop, take, get_or, ap, subst, ◌∙◌, sym, refl, arith}
 use Rattle.std.proofs.Math.Seq.{take-suc}
 use Rattle.std.proofs.lemmas.Bool.{le-leb, leb-true, lt-ltb}
 use Rattle.std.proofs.lemmas.List.{map-append, take_rest}
@@ -7,16 +7,12 @@ use Rattle.tw_surface.specs.declared.change.Change.{Change}
 use Rattle.tw_surface.specs.ChangeView.{ChangeView, Batch, batch_view, change_view}
 use Rattle.tw_sparing.specs.declared.shown.Shown.{Shown}
 use Rattle.tw_surface.specs.declared.change.Position.{Position}
-use Rattle.tw_surface.specs.declared.cell.CellAttributes.{CellAttributes}
-use Rattle.laws_screens.specs.Pens.{led, char_stroke, change_strokes}
-use Rattle.laws_screens.specs.StyledCells.{styled}
-use Rattle.laws_screens.proofs.PlainGlyphs.{plain_strokes}
-use Rattle.tw_sparing.specs.StyledScreens.{StyledView, AreDrawn, at_row, screen_strokes, styled_at}
-use Rattle.tw_sparing.proofs.TypedOn.{plain_chars}
+use Rattle.laws_screens.specs.Pens.{led}
+use Rattle.tw_sparing.specs.StyledScreens.{at_row, styled_at}
 use Rattle.tw_surface.specs.declared.change.Position.TheVariants.{Absolute, Relative}
 use Rattle.tw_surface.specs.ChangeView.{Attribute, AllAttributes, Text, ClearScreen, ClearToEndOfScreen, CursorPosition}
 use Rattle.tw_surface.specs.Defaults.{default_color}
-use Rattle.tw_sparing.specs.Shown.{first_shown, goes_out_of_sight, gone_rows, left_behind, rows_above, Empties, FitsTerminal, SetsAttributes, IsDrawnAfter, IsEmptiedFrom, IsInSight, IsKnownAfter, IsKnownBy, IsPlayable, IsPlayed, IsPlayedOnce}
+use Rattle.tw_sparing.specs.Shown.{first_shown, goes_out_of_sight, gone_rows, left_behind, rows_above, Empties, FitsTerminal, SetsAttributes, IsDrawnAfter, IsEmptiedFrom, IsInSight, IsKnownAfter, IsKnownBy, IsPlayed, IsPlayedOnce}
 
 played_last : (rows : ℕ) (xs : Batch) (x : ChangeView) (a b c : Shown) → IsPlayed rows xs a b → IsPlayedOnce rows x b c → IsPlayed rows (xs ++ x ∷ []) a c
 played_last rows [] x a b c first last = (c, subst (λ (k : Shown). IsPlayedOnce rows x k c) first last, refl)
@@ -32,18 +28,6 @@ played_more rows changes i x a b c less item first last =
     ∙ ap (λ y. batch_view (take i changes) ++ change_view y ∷ []) (sym item) in
     subst (λ n. IsPlayed rows (batch_view (take n changes)) a c) next
     (subst (λ xs. IsPlayed rows xs a c) (sym is) (played_last rows (batch_view (take i changes)) (change_view x) a b c first last))
-
--- a change that can be played draws its strokes, which are those of its characters
-pub plays : (rows : ℕ) (change : ChangeView) (old : Shown) (new : StyledView) → IsPlayable rows old change
-    → AreDrawn old.screen (screen_strokes old.screen.kept change) new → AreDrawn old.screen (change_strokes styled old.screen.kept change) new
-plays rows (Text text) old new plain drawn =
-    let kept : CellAttributes = old.screen.kept in
-    subst (λ strokes. AreDrawn old.screen strokes new) (ap (map (char_stroke styled kept)) (plain_chars text plain) ∙ sym (plain_strokes styled kept text plain)) drawn
-plays rows (Attribute change) old new is drawn = drawn
-plays rows (AllAttributes to) old new is drawn = drawn
-plays rows (ClearScreen color) old new is drawn = drawn
-plays rows (ClearToEndOfScreen color) old new is drawn = drawn
-plays rows (CursorPosition x y) old new is drawn = drawn
 
 -- the width stays
 pub played_width : (rows : ℕ) (xs : Batch) (a b : Shown) → IsPlayed rows xs a b → b.screen.width ≡ a.screen.width

@@ -79,7 +79,7 @@ module _ (h w old_top old_row s : ℕ) (old new : Shown) (e : Encoder) (t : Ecma
     ink = λ i j less left.
         let inside : j < new.screen.width = subst (λ n. j < n) (sym spans.width) left in
         subst (λ x. IsInk x) (sym (cut_cells top new.screen i j))
-        (fits.printable (top + i) (omega (arith, less)) j inside, fits.colors (top + i) j (omega (arith, less)) inside);
+        (fits.typable (top + i) (omega (arith, less)) j inside, fits.colors (top + i) j (omega (arith, less)) inside);
     blank = λ i j far. cut_cells top new.screen i j ∙ new_blank (top + i) j (omega (arith, far));
   }
 

@@ -1,5 +1,5 @@
 -- The changes of a batch that is played can be sent as they are.
-use Rattle.std.proofs.Common.{◌≡◌, ◌<◌, ◌≤◌, ◌+◌, ◌-◌, ℕ, pos, negsuc, Some, [], ◌∷◌, ap, subst, ◌∙◌, sym, refl, arith}
+use Rattle.std.proofs.Common.{◌≡◌, ◌<◌, ◌≤◌, ◌+◌, ◌-◌, ℕ, pos, negsuc, Some, true, [], ◌∷◌, ap, subst, ◌∙◌, sym, refl, arith}
 use Rattle.tw_surface.specs.declared.cell.AttributeChange.{AttributeChange}
 use Rattle.tw_surface.specs.declared.cell.AttributeChange.TheVariants.{Intensity, Underline, Italic, Blink, Reverse, StrikeThrough, Invisible, Foreground, Background}
 use Rattle.tw_surface.specs.declared.cell.CellAttributes.{CellAttributes}
@@ -16,8 +16,8 @@ use Rattle.tw_ansi.specs.Sequences.{most_rows}
 use Rattle.tw_ansi.specs.Encoding.{sent_change, sent_batch}
 use Rattle.tw_ansi.specs.EcmaLaws.{IsColor, IsAttribute}
 use Rattle.tw_ansi.specs.EcmaBatches.{CarriesAttributes, IsReached, IsSendable, AreSendable}
+use Rattle.tw_ansi.specs.EcmaTexts.{is_sent}
 use Rattle.tw_ansi.proofs.EcmaBatches.{keeps_change}
-use Rattle.tw_ansi.proofs.EcmaPaintings.{plain_sent}
 use Rattle.tw_sparing.specs.ChangedScreens.{AreByBytes}
 use Rattle.tw_sparing.specs.declared.shown.Shown.{Shown}
 use Rattle.tw_sparing.specs.Shown.{left_behind, IsInSight, IsPlayable, IsPlayedOnce, IsPlayed}
@@ -62,7 +62,7 @@ module _ (h w s : ℕ) (first : PictureOf StyledCell) where
         omega (arith, sight, row, low, is.reached, most)
 
     pub change_sendable : (x : ChangeView) → IsPlayedOnce h x old new → IsSendable styled h w e x p
-    change_sendable (Text text) is = plain_sent w text is.playable
+    change_sendable (Text text) is = subst (λ n. is_sent n text ≡ true) a.width is.playable
     change_sendable (Attribute change) is = is.playable
     change_sendable (AllAttributes to) is = is.playable
     change_sendable (ClearScreen c) is = absurd is.playable

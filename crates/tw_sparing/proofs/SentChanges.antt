@@ -1,12 +1,12 @@
 -- The changes of a redrawing are such that their bytes do what they do.
-use Rattle.std.proofs.Common.{◌≡◌, ◌<◌, ◌≤◌, ◌+◌, ◌-◌, ◌*◌, ◌/◌, ◌%◌, ◌&&◌, ◌||◌, ℕ, ℤ, zero, suc, pos, negsuc, ◌-ℤ◌, Bool, true, false, cond, eqb, leb, Some, [], ◌∷◌, ◌++◌, ap, subst, ◌∙◌, sym, refl, inl, inr, arith}
-use Rattle.std.specs.List.{list_all, AllByRecursion}
+use Rattle.std.proofs.Common.{◌≡◌, ◌<◌, ◌≤◌, ◌+◌, ◌-◌, ◌*◌, ◌/◌, ◌%◌, ◌&&◌, ℕ, ℤ, zero, suc, pos, negsuc, ◌-ℤ◌, Bool, true, false, cond, eqb, leb, Some, [], ◌∷◌, ◌++◌, subst, sym, refl, inl, inr, arith}
+use Rattle.std.specs.List.{AllByRecursion}
 use Rattle.std.proofs.lemmas.Bool.{eqb-true, and_parts, leb-false}
 use Rattle.std.proofs.lemmas.Int.{ints}
 use Rattle.tw_surface.specs.contracts.cell.CellAttributesPartialEq.TheImpl.{ghosts as attributes}
 use Rattle.tw_surface.specs.declared.cell.CellAttributes.{CellAttributes}
 use Rattle.tw_surface.specs.declared.change.Position.TheVariants.{Absolute, Relative}
-use Rattle.tw_surface.specs.Characters.{is_plain, is_printable}
+use Rattle.tw_surface.specs.Characters.{lf}
 use Rattle.tw_surface.specs.ChangeView.{ChangeView, Batch}
 use Rattle.tw_surface.specs.ChangeView.{Attribute, AllAttributes, Text, ClearScreen, ClearToEndOfScreen, CursorPosition}
 use Rattle.laws_screens.specs.Strokes.{PictureOf, steps_on}
@@ -16,35 +16,37 @@ use Rattle.tw_ansi.specs.declared.encode.Encoder.{Encoder}
 use Rattle.tw_ansi.specs.Sequences.{most_rows}
 use Rattle.tw_ansi.specs.Encoding.{sent_change}
 use Rattle.tw_ansi.specs.EcmaBatches.{IsReached, IsSendable, AreSendable}
+use Rattle.tw_ansi.specs.EcmaTexts.{is_sent}
 use Rattle.tw_sparing.specs.Differences.{differ_in, first_changed, last_changed}
 use Rattle.tw_ansi.proofs.EcmaPaintings.{plain_sent}
 use Rattle.tw_sparing.specs.declared.hand.Hand.{Hand}
 use Rattle.tw_sparing.specs.Redrawings.{Redrawing, at_ease, redraw_then, led_to, under, indexed, typed_in_cell, cell_redrawn, cells_redrawn, span_redrawn, row_redrawn, rows_redrawn, fed_once, fed, lowest_reached, sunk_to, handed_to, lowered}
 use Rattle.tw_sparing.specs.ChangedScreens.{AreByBytes, IsInk}
+use Rattle.tw_sparing.proofs.SingleCharacters.{number_typed}
 use Rattle.tw_sparing.proofs.FoundColumns.{least_cases, greatest_cases}
 use Rattle.tw_sparing.proofs.TypedCells.{inside_row}
 
--- changes that can be sent whatever a terminal shows
+-- changes that can be sent whatever a terminal of some columns shows
 abbrev pub IsEasy : ChangeView → Type 0
-IsEasy (Text text) = list_all is_plain text ≡ true
+IsEasy (Text text) = (w : ℕ) → 0 < w → is_sent w text ≡ true
 IsEasy (Attribute change) = ⊥
 IsEasy (AllAttributes to) = AreByBytes to
 IsEasy (ClearScreen color) = ⊥
 IsEasy (ClearToEndOfScreen color) = ⊥
 IsEasy (CursorPosition x y) = (h : ℕ) → IsReached h y
 
-easy_sendable : (h w : ℕ) (x : ChangeView) (e : Encoder) (p : PictureOf StyledCell) → IsEasy x → IsSendable styled h w e x p
-easy_sendable h w (Text text) e p a = plain_sent w text a
-easy_sendable h w (Attribute change) e p a = absurd a
-easy_sendable h w (AllAttributes to) e p a = a
-easy_sendable h w (ClearScreen color) e p a = absurd a
-easy_sendable h w (ClearToEndOfScreen color) e p a = absurd a
-easy_sendable h w (CursorPosition x y) e p a = a h
+easy_sendable : (h w : ℕ) (x : ChangeView) (e : Encoder) (p : PictureOf StyledCell) → 0 < w → IsEasy x → IsSendable styled h w e x p
+easy_sendable h w (Text text) e p some a = a w some
+easy_sendable h w (Attribute change) e p some a = absurd a
+easy_sendable h w (AllAttributes to) e p some a = a
+easy_sendable h w (ClearScreen color) e p some a = absurd a
+easy_sendable h w (ClearToEndOfScreen color) e p some a = absurd a
+easy_sendable h w (CursorPosition x y) e p some a = a h
 
-pub all_sendable : (h w : ℕ) (xs : Batch) (e : Encoder) (p : PictureOf StyledCell) → AllByRecursion IsEasy xs → AreSendable styled h w e xs p
-all_sendable h w [] e p a = tt
-all_sendable h w (x ∷ xs) e p a =
-    (easy_sendable h w x e p a.0, all_sendable h w xs (sent_change x e).next (steps_on (Some h) w (change_strokes styled (styled.attributes e.attributes) x) p) a.1)
+pub all_sendable : (h w : ℕ) (xs : Batch) (e : Encoder) (p : PictureOf StyledCell) → 0 < w → AllByRecursion IsEasy xs → AreSendable styled h w e xs p
+all_sendable h w [] e p some a = tt
+all_sendable h w (x ∷ xs) e p some a =
+    (easy_sendable h w x e p some a.0, all_sendable h w xs (sent_change x e).next (steps_on (Some h) w (change_strokes styled (styled.attributes e.attributes) x) p) some a.1)
 
 -- such changes, which leave the hand in a row that a move reaches
 pub record IsSent (d : Redrawing) : Type 0 where
@@ -82,14 +84,6 @@ sent_under to hand colors low = by_same (attributes.eq hand.attributes to)
     by_same true = sent_ease hand low
     by_same false = record { easy = (colors, tt); low = low }
 
--- a printable character is plain
-pub printable_plain : (b : ℕ) → is_printable b ≡ true → is_plain b ≡ true
-printable_plain b is = ap (λ x. (eqb b 13 || eqb b 10) || x) is ∙ either (eqb b 13 || eqb b 10)
-  where
-    either : (x : Bool) → (x || true) ≡ true
-    either true = refl
-    either false = refl
-
 -- cells that are typed one after the other
 pub sent_cells : (w k n : ℕ) (cells : ℕ → ℕ → StyledCell) (hand : Hand) → ((m : ℕ) → k ≤ m → m < k + n → IsInk (indexed w cells m) × (m / w ≤ most_rows)) → hand.row ≤ most_rows
     → IsSent (cells_redrawn w cells k n hand)
@@ -98,7 +92,7 @@ sent_cells w k (suc n) cells hand ink low =
     let x : StyledCell = indexed w cells k in
     let here = ink k (omega arith) (omega arith) in
     let first : Redrawing = under x.attributes hand in
-    let typed : IsSent (typed_in_cell w k x.ch first.hand) = record { easy = (ap (λ x. x && true) (printable_plain x.ch here.0.0), tt); low = here.1 } in
+    let typed : IsSent (typed_in_cell w k x.ch first.hand) = record { easy = ((number_typed x.ch here.0.0).sent, tt); low = here.1 } in
     let cell = sent_both first (typed_in_cell w k x.ch) (sent_under x.attributes hand here.0.1 low) typed in
     sent_both (cell_redrawn w cells k hand) (cells_redrawn w cells (suc k) n) cell
     (sent_cells w (suc k) n cells (cell_redrawn w cells k hand).hand (λ m from to. ink m (omega (arith, from)) (omega (arith, to))) cell.low)
@@ -136,7 +130,7 @@ sent_rows w r (suc n) old new hand ink here low =
 
 sent_feeds : (n : ℕ) (hand : Hand) → hand.row + n ≤ most_rows → IsSent (fed n hand)
 sent_feeds zero hand low = sent_ease hand (omega (arith, low))
-sent_feeds (suc n) hand low = sent_both (fed_once hand) (fed n) (record { easy = (refl, tt); low = omega (arith, low) }) (sent_feeds n (fed_once hand).hand (omega (arith, low)))
+sent_feeds (suc n) hand low = sent_both (fed_once hand) (fed n) (record { easy = (λ w some. plain_sent w (lf ∷ []) refl, tt); low = omega (arith, low) }) (sent_feeds n (fed_once hand).hand (omega (arith, low)))
 
 -- a move leads to its row
 led_row : (row col : ℕ) (hand : Hand) → (led_to row col hand).hand.row ≡ row

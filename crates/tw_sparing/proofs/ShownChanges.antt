@@ -23,13 +23,13 @@ use Rattle.tw_ansi.proofs.EcmaBatches.{keeps_change, terse_next, terse_batch_is_
 use Rattle.tw_sparing.specs.Differences.{end_of}
 use Rattle.tw_sparing.specs.declared.hand.Hand.{Hand}
 use Rattle.tw_sparing.specs.Redrawings.{Redrawing, at_ease, redraw_then, led_to, emptied_here, emptied, rest_of, rest_emptied, left_of, lowered, rows_redrawn, sunk_to, handed_to, rows_drawn_on, hand_index, indexed, cells_redrawn, goes_onward, gone_onward, redrawn}
-use Rattle.tw_sparing.specs.Sending.{ArePrintable}
+use Rattle.tw_sparing.specs.Sending.{AreSingle}
 use Rattle.tw_sparing.specs.ChangedScreens.{IsInk, IsInked, IsHandWithin, IsBlankFrom, IsSeenFrom, turned_to, ChangedIsShown}
 use Rattle.tw_sparing.proofs.DrawnRows.{Holds, redrawn_on, redrawn_both, gone}
 use Rattle.tw_sparing.proofs.DrawnScreens.{rows_drawn}
 use Rattle.tw_sparing.proofs.DrawnEnds.{end_within, rest, rises}
 use Rattle.tw_sparing.proofs.DrawnChangedScreens.{Becomes, becomes, handed}
-use Rattle.tw_sparing.proofs.OnwardScreens.{GoesOn, going_on, typed_printable, typing_goes, handing, becomes_onward}
+use Rattle.tw_sparing.proofs.OnwardScreens.{GoesOn, going_on, typed_place, typing_goes, handing, becomes_onward}
 use Rattle.tw_sparing.proofs.SentBatches.{both_next, both_bytes}
 use Rattle.tw_sparing.proofs.SentChanges.{all_sendable, sent_move, sent_rows, sent_handed, sent_lowered, sent_cells}
 
@@ -92,7 +92,7 @@ module _ (h w : ℕ) where
       let g = gone h w s (from / w) (from % w) hand p low left holds in
       let q : PictureOf StyledCell = redrawn_on h w hand move p in
       let there = sent_move (from / w) (from % w) hand (omega (arith, low, most)) held in
-      let m = sends hand move e t p some small (all_sendable h w move.changes e p there.easy) g.leads.stays same g.leads.kept a in
+      let m = sends hand move e t p some small (all_sendable h w move.changes e p some there.easy) g.leads.stays same g.leads.kept a in
       let known : Encoder = (terse_batch move.changes e).next in
       let colors : (terse_batch move.changes e).next.attributes ≡ e.attributes = sym m.attributes ∙ g.attributes ∙ same in
       let by_bytes : IsColor (terse_batch move.changes e).next.attributes.background = subst (λ (c : CellAttributes). IsColor c.background) (sym colors) color in
@@ -133,7 +133,7 @@ module _ (h w : ℕ) where
         let p1 : PictureOf StyledCell = redrawn_on h w hand d1 p in
         let a1 = rises h w s reached rows old hand p some room low inside seen.cell holds in
         let i1 = sent_lowered reached rows hand (omega (arith, room, most)) held in
-        let s1 = sends hand d1 e t p some small (all_sendable h w d1.changes e p i1.easy) a1.leads.stays same a1.leads.kept a in
+        let s1 = sends hand d1 e t p some small (all_sendable h w d1.changes e p some i1.easy) a1.leads.stays same a1.leads.kept a in
         let e1 : Encoder = (terse_batch d1.changes e).next in
         let t1 : EcmaScreen StyledCell = receive_all styled h w (terse_batch d1.changes e).bytes t in
         let up : s - (s + rows - h) + rows ≤ h = omega (arith, room) in
@@ -152,13 +152,13 @@ module _ (h w : ℕ) where
         let a3 = rows_drawn h w (s - (s + rows - h)) 0 rows (left_of w (rest_of w rows old new) old) new d2.hand p2 (omega (arith, up))
         (λ i from less j left. (ink i j from less left).0) (λ i j from less left. a2.shown i j left) a2.leads.holds in
         let i3 = sent_rows w 0 rows (left_of w (rest_of w rows old new) old) new d2.hand ink (omega (arith, room, most)) held2 in
-        let s3 = sends d2.hand d3 e2 t2 p2 some small (all_sendable h w d3.changes e2 p2 i3.easy) a3.leads.stays s2.attributes a3.leads.kept s2.shown in
+        let s3 = sends d2.hand d3 e2 t2 p2 some small (all_sendable h w d3.changes e2 p2 some i3.easy) a3.leads.stays s2.attributes a3.leads.kept s2.shown in
         let e3 : Encoder = (terse_batch d3.changes e2).next in
         let t3 : EcmaScreen StyledCell = receive_all styled h w (terse_batch d3.changes e2).bytes t2 in
         let d4 : Redrawing = handed_to (max reached rows) to d3.hand in
         let a4 = handed h w (s - (s + rows - h)) (max reached rows) to d3.hand p3 (omega (arith, low, room)) (omega (arith, reach.row, room)) reach.col s3.shown.within.row a3.leads.holds in
         let i4 = sent_handed (max reached rows) to d3.hand reach.colors (omega (arith, reach.row, room, most)) i3.low in
-        let s4 = sends d3.hand d4 e3 t3 p3 some small (all_sendable h w d4.changes e3 p3 i4.easy) a4.leads.stays s3.attributes a4.leads.kept s3.shown in
+        let s4 = sends d3.hand d4 e3 t3 p3 some small (all_sendable h w d4.changes e3 p3 some i4.easy) a4.leads.stays s3.attributes a4.leads.kept s3.shown in
         sends_both hand d1 second e t p a1.leads.kept
         (sends_both d1.hand d2 third e1 t1 p1 a2.leads.kept
         (sends_both d2.hand d3 last e2 t2 p2 a3.leads.kept s4))
@@ -175,7 +175,7 @@ module _ (h w : ℕ) where
     edged : hand.col ≤ w
     edged = omega (arith, a.edge, seen.col)
 
-    ink_there : (i : ℕ) → i < rows → ArePrintable w (new i)
+    ink_there : (i : ℕ) → i < rows → AreSingle w (new i)
     ink_there i less j left = (inked.ink i j less left).0
 
     pub onward_becomes : Becomes h w s (s - (s + rows - h)) new to hand (gone_onward w reached rows new to hand) p
@@ -189,16 +189,16 @@ module _ (h w : ℕ) where
         let g = typing_goes h w s reached rows old new to hand p some room low a.within.row edged reach.row reach.col blank inked.blank ink_there seen.cell holding goes in
         let ink : (m : ℕ) → k ≤ m → m < k + n → IsInk (indexed w new m) × (m / w ≤ most_rows) =
         λ m from less.
-        let place = typed_printable h w s reached rows old new to hand p some room low a.within.row edged reach.row reach.col blank inked.blank ink_there seen.cell holding goes m from less in
+        let place = typed_place h w s reached rows old new to hand p some room low a.within.row edged reach.row reach.col blank inked.blank ink_there seen.cell holding goes m from less in
         (inked.ink (m / w) (m % w) place.0 place.1, let row = place.0 in omega (arith, row, room, most)) in
         let i1 = sent_cells w k n new hand ink (omega (arith, seen.row, a.within.row, most)) in
-        let s1 = sends hand d e t p some small (all_sendable h w d.changes e p i1.easy) g.leads.stays same g.leads.kept a in
+        let s1 = sends hand d e t p some small (all_sendable h w d.changes e p some i1.easy) g.leads.stays same g.leads.kept a in
         let last : Redrawing = handed_to reached to d.hand in
         let b = handing h w s reached rows old new to hand p some room low a.within.row edged reach.row reach.col blank inked.blank ink_there seen.cell holding goes in
         let easy = (sent_handed reached to d.hand reach.colors (omega (arith, reach.row, room, most)) i1.low).easy in
         sends_both hand d (handed_to reached to) e t p g.leads.kept
         (sends d.hand last (terse_batch d.changes e).next (receive_all styled h w (terse_batch d.changes e).bytes t) (redrawn_on h w hand d p) some small
-        (all_sendable h w last.changes (terse_batch d.changes e).next (redrawn_on h w hand d p) easy) b.leads.stays s1.attributes b.leads.kept s1.shown)
+        (all_sendable h w last.changes (terse_batch d.changes e).next (redrawn_on h w hand d p) some easy) b.leads.stays s1.attributes b.leads.kept s1.shown)
 
   -- ---- the picture is what it was made into
 

@@ -1,18 +1,19 @@
 -- A picture on which cells are typed one after the other, from the cursor on.
-use Rattle.std.proofs.Common.{◌≡◌, ◌<◌, ◌≤◌, ◌+◌, ◌-◌, ◌*◌, ◌/◌, ◌%◌, ℕ, zero, suc, true, cond, eqb, Some, ap, subst, ◌∙◌, sym, refl, inl, inr, arith}
+use Rattle.std.proofs.Common.{◌≡◌, ◌<◌, ◌≤◌, ◌+◌, ◌-◌, ◌*◌, ◌/◌, ◌%◌, ℕ, zero, suc, cond, eqb, Some, ap, subst, ◌∙◌, sym, refl, inl, inr, arith}
 use Rattle.std.proofs.Math.Nat.{mod-lt, div-lt_iff_lt-mul}
-use Rattle.std.specs.Prelude.{[], ◌∷◌, ◌++◌}
-use Rattle.std.proofs.lemmas.Bool.{cases_eq, cases_lt, eq-eqb, ne_eqb, and_from}
+use Rattle.std.specs.Prelude.{[], ◌∷◌, ◌++◌, map}
+use Rattle.std.proofs.lemmas.Bool.{cases_eq, cases_lt, eq-eqb, ne_eqb}
 use Rattle.std.proofs.lemmas.Nat.{div-mul-add, mod-mul-add, mul-le, div-add-mod'}
-use Rattle.tw_surface.specs.Characters.{is_printable}
 use Rattle.laws_screens.proofs.LineOfCells.{put-one}
-use Rattle.laws_screens.proofs.PlainGlyphs.{plain_strokes, plain_from_printable}
 use Rattle.laws_screens.specs.Strokes.{PictureOf, put_in, step, steps_on, scrolled}
-use Rattle.laws_screens.specs.Pens.{strokes_of}
+use Rattle.laws_screens.specs.Strokes.Stroke.{Put}
+use Rattle.laws_screens.specs.Pens.{glyph_stroke, strokes_of}
 use Rattle.laws_screens.specs.StyledCells.{StyledCell, styled}
+use Rattle.tw_sparing.specs.SingleCharacters.{IsSingle}
 use Rattle.tw_sparing.specs.declared.hand.Hand.{Hand}
 use Rattle.tw_sparing.specs.Redrawings.{Redrawing, under, hand_index, indexed, typed_in_cell, cell_redrawn, cells_redrawn}
-use Rattle.tw_sparing.proofs.DrawnRows.{Holds, redrawn_on, redrawn_both, Leads, leads_then, leads_ease, is_under, put_stroke, put_here, put_there, put_beside, put_away, unscrolled, rows_inside}
+use Rattle.tw_sparing.proofs.SingleCharacters.{number_typed}
+use Rattle.tw_sparing.proofs.DrawnRows.{Holds, redrawn_on, redrawn_both, Leads, leads_then, leads_ease, is_under, put_here, put_there, put_beside, put_away, unscrolled, rows_inside}
 
 -- the row and the column of an index
 module _ (w k row col : ℕ) (at : row * w + col ≡ k) where
@@ -46,7 +47,7 @@ module _ (h w : ℕ) (some : 0 < w) where
     pub cells : (i j : ℕ) → (redrawn_on h w hand d p).cell i j ≡ put_in p.cell (s + k / w) (k % w) x (i + (s - top_after s (k / w))) j
 
   module _ (s k ch : ℕ) (hand : Hand) (p : PictureOf StyledCell) (low : k / w < h) (edge : hand.col ≤ w) (at : hand_index w hand ≡ k) (inside : p.row < h)
-      (printable : is_printable ch ≡ true) (holds : Holds s hand p) where
+      (single : IsSingle ch) (holds : Holds s hand p) where
     abbrev inked : StyledCell
     inked = record { ch = ch; attributes = hand.attributes }
 
@@ -55,8 +56,8 @@ module _ (h w : ℕ) (some : 0 < w) where
 
     put_is : redrawn_on h w hand (typed_in_cell w k ch hand) p ≡ scrolled (Some h) (cond (eqb p.col w) wrapped (put_here h w inked p))
     put_is =
-        ap (λ l. steps_on (Some h) w (l ++ []) p) (plain_strokes styled hand.attributes (ch ∷ []) (plain_from_printable (ch ∷ []) (and_from (is_printable ch) true printable refl)))
-        ∙ ap (λ stroke. scrolled (Some h) (step w stroke p)) (put_stroke h w hand.attributes ch printable)
+        ap (λ g. steps_on (Some h) w (map (glyph_stroke styled hand.attributes) g ++ []) p) (number_typed ch single).drawn
+        ∙ ap (λ n. scrolled (Some h) (step w (Put (record { ch = n; attributes = hand.attributes } ∷ [])) p)) (number_typed ch single).number
         ∙ ap (scrolled (Some h)) (put-one w inked p (omega (arith, holds.col, edge)))
 
     typed_inside : hand.col < w → TypedAt s k inked hand (typed_in_cell w k ch hand) p
@@ -113,15 +114,15 @@ module _ (h w : ℕ) (some : 0 < w) where
 
   -- so it is under the cell's attributes
   index_inked : (s k : ℕ) (cells : ℕ → ℕ → StyledCell) (hand : Hand) (p : PictureOf StyledCell) → k / w < h → hand.col ≤ w → hand_index w hand ≡ k → p.row < h
-      → is_printable (indexed w cells k).ch ≡ true → Holds s hand p → TypedAt s k (indexed w cells k) hand (cell_redrawn w cells k hand) p
-  index_inked s k cells hand p low edge at inside printable holds =
+      → IsSingle (indexed w cells k).ch → Holds s hand p → TypedAt s k (indexed w cells k) hand (cell_redrawn w cells k hand) p
+  index_inked s k cells hand p low edge at inside single holds =
       let x : StyledCell = indexed w cells k in
       let u = is_under h w s x.attributes hand p holds in
       let first : Redrawing = under x.attributes hand in
       let more : Hand → Redrawing = typed_in_cell w k x.ch in
       let q : PictureOf StyledCell = redrawn_on h w hand first p in
       let same_index : hand_index w first.hand ≡ k = ap (λ r. r * w + first.hand.col) u.row ∙ ap (λ c. hand.row * w + c) u.col ∙ at in
-      let b = typed s k x.ch first.hand q low (omega (arith, u.col, edge)) same_index (rows_inside h w (strokes_of styled hand.attributes first.changes) p inside) printable u.leads.holds in
+      let b = typed s k x.ch first.hand q low (omega (arith, u.col, edge)) same_index (rows_inside h w (strokes_of styled hand.attributes first.changes) p inside) single u.leads.holds in
       record {
         leads = leads_then h w s (top_after s (k / w)) hand first more p u.leads b.leads;
         row = b.row;
@@ -156,9 +157,9 @@ module _ (h w : ℕ) (some : 0 < w) where
       other (ap (λ n. n * w + j) same ∙ ap (λ n. k / w * w + n) col ∙ div-add-mod' k w)
 
   pub went_on : (s k n : ℕ) (cells : ℕ → ℕ → StyledCell) (hand : Hand) (p : PictureOf StyledCell) → k + n ≤ h * w → hand.col ≤ w → hand_index w hand ≡ k → p.row < h
-      → ((m : ℕ) → k ≤ m → m < k + n → is_printable (indexed w cells m).ch ≡ true) → Holds s hand p
+      → ((m : ℕ) → k ≤ m → m < k + n → IsSingle (indexed w cells m).ch) → Holds s hand p
       → WentOn s k n cells hand (cells_redrawn w cells k n hand) p
-  went_on s k zero cells hand p room edge at inside printable holds =
+  went_on s k zero cells hand p room edge at inside single holds =
       let fixed : top_after s hand.row ≡ s = omega (arith, holds.row, inside) in
       record {
         leads = subst (λ t. Leads h w t hand (cells_redrawn w cells k 0 hand) p) (sym fixed) (leads_ease h w s hand p holds);
@@ -172,18 +173,18 @@ module _ (h w : ℕ) (some : 0 < w) where
         outside = λ i j right. ap (λ n. p.cell (n + i) j) fixed;
         above = λ i j up. ap (λ n. p.cell n j) (let e : i ≡ i + (s - top_after s hand.row) = omega (arith, fixed) in e);
       }
-  went_on s k (suc n) cells hand p room edge at inside printable holds =
+  went_on s k (suc n) cells hand p room edge at inside single holds =
       let x : StyledCell = indexed w cells k in
       let low : k / w < h = (div-lt_iff_lt-mul some).1 (omega (arith, room)) in
       let first : Redrawing = cell_redrawn w cells k hand in
       let more : Hand → Redrawing = cells_redrawn w cells (suc k) n in
-      let a = index_inked s k cells hand p low edge at inside (printable k (omega arith) (omega arith)) holds in
+      let a = index_inked s k cells hand p low edge at inside (single k (omega arith) (omega arith)) holds in
       let mid : ℕ = top_after s (k / w) in
       let q : PictureOf StyledCell = redrawn_on h w hand first p in
       let next_at : hand_index w first.hand ≡ suc k = (let whole : k / w * w + k % w ≡ k = div-add-mod' k w in omega (arith, whole)) in
       let next_edge : first.hand.col ≤ w = (let within : k % w < w = mod-lt k some in omega (arith, within)) in
       let b = went_on (top_after s (k / w)) (suc k) n cells first.hand q (omega (arith, room)) next_edge next_at (rows_inside h w (strokes_of styled hand.attributes first.changes) p inside)
-      (λ m from to. printable m (omega (arith, from)) (omega (arith, to))) a.leads.holds in
+      (λ m from to. single m (omega (arith, from)) (omega (arith, to))) a.leads.holds in
       let d : Redrawing = cells_redrawn w cells k (suc n) hand in
       let last : PictureOf StyledCell = redrawn_on h w first.hand (more first.hand) q in
       let to_last : (i j : ℕ) → (redrawn_on h w hand d p).cell i j ≡ last.cell i j = λ i j. ap (λ (v : PictureOf StyledCell). v.cell i j) (redrawn_both h w hand first more p a.leads.kept) in
@@ -234,7 +235,7 @@ module _ (h w : ℕ) (some : 0 < w) where
     pub others : (i j : ℕ) → (i ≡ s + r → ⊥) → (redrawn_on h w hand d p).cell i j ≡ p.cell i j
 
   module _ (s r c n : ℕ) (cells : ℕ → ℕ → StyledCell) (hand : Hand) (p : PictureOf StyledCell) (low : s + r < h) (room : c + n ≤ w)
-      (printable : (j : ℕ) → c ≤ j → j < c + n → is_printable (cells r j).ch ≡ true) (row : hand.row ≡ r) (col : hand.col ≡ c) (holds : Holds s hand p) where
+      (single : (j : ℕ) → c ≤ j → j < c + n → IsSingle (cells r j).ch) (row : hand.row ≡ r) (col : hand.col ≡ c) (holds : Holds s hand p) where
     abbrev run : Redrawing
     run = cells_redrawn w cells (r * w + c) n hand
 
@@ -242,15 +243,15 @@ module _ (h w : ℕ) (some : 0 < w) where
     pub run_place : (m : ℕ) → r * w + c ≤ m → m < r * w + c + n → (m / w ≡ r) × (m % w ≡ m - r * w)
     run_place m from to = let at : r * w + (m - r * w) ≡ m = omega (arith, from) in inside_row w m r (m - r * w) at (omega (arith, from, to, room))
 
-    run_printable : (m : ℕ) → r * w + c ≤ m → m < r * w + c + n → is_printable (indexed w cells m).ch ≡ true
-    run_printable m from to =
+    run_single : (m : ℕ) → r * w + c ≤ m → m < r * w + c + n → IsSingle (indexed w cells m).ch
+    run_single m from to =
         let place = run_place m from to in
-        ap (λ i. is_printable (cells i (m % w)).ch) place.0 ∙ ap (λ j. is_printable (cells r j).ch) place.1 ∙ printable (m - r * w) (omega (arith, from)) (omega (arith, from, to))
+        subst (λ i. IsSingle (cells i (m % w)).ch) (sym place.0) (subst (λ j. IsSingle (cells r j).ch) (sym place.1) (single (m - r * w) (omega (arith, from)) (omega (arith, from, to))))
 
     goes : WentOn s (r * w + c) n cells hand run p
     goes =
         let fits : suc r * w ≤ h * w = mul-le (suc r) w h w (omega (arith, low)) (omega arith) in
-        went_on s (r * w + c) n cells hand p (omega (arith, fits, room)) (omega (arith, col, room)) (ap (λ i. i * w + hand.col) row ∙ ap (λ j. r * w + j) col) (omega (arith, holds.row, row, low)) run_printable holds
+        went_on s (r * w + c) n cells hand p (omega (arith, fits, room)) (omega (arith, col, room)) (ap (λ i. i * w + hand.col) row ∙ ap (λ j. r * w + j) col) (omega (arith, holds.row, row, low)) run_single holds
 
     stays_in_row : top_after s run.hand.row ≡ s
     stays_in_row =

@@ -1,7 +1,6 @@
 -- What a terminal shows that is sent the difference of two screens.
-use Rattle.std.specs.Prelude.{◌≡◌, ◌≤◌, ◌<◌, ◌+◌, ◌-◌, ◌^◌, ℕ, ltb, min, true, if◌then◌else◌}
+use Rattle.std.specs.Prelude.{◌≡◌, ◌≤◌, ◌<◌, ◌+◌, ◌-◌, ◌^◌, ℕ, ltb, min, if◌then◌else◌}
 use Rattle.tw_surface.specs.declared.cell.CellAttributes.{CellAttributes}
-use Rattle.tw_surface.specs.Characters.{is_printable}
 use Rattle.laws_screens.specs.Strokes.{PictureOf}
 use Rattle.laws_screens.specs.StyledCells.{StyledCell, styled}
 use Rattle.tw_ansi.specs.declared.encode.Encoder.{Encoder}
@@ -10,6 +9,7 @@ use Rattle.tw_ansi.specs.Encoding.{terse_batch}
 use Rattle.tw_ansi.specs.EcmaScreen.{EcmaScreen, receive_all}
 use Rattle.tw_ansi.specs.EcmaLaws.{IsColor}
 use Rattle.tw_ansi.specs.EcmaTexts.{ShowsPicture}
+use Rattle.tw_sparing.specs.SingleCharacters.{IsSingle}
 use Rattle.tw_sparing.specs.Differences.{blank_cell}
 use Rattle.tw_sparing.specs.declared.hand.Hand.{Hand}
 use Rattle.tw_sparing.specs.Redrawings.{redrawn}
@@ -22,9 +22,9 @@ AreByBytes a = IsColor a.foreground × IsColor a.background
 abbrev pub AreAllByBytes : ℕ → ℕ → (ℕ → ℕ → StyledCell) → Type 0
 AreAllByBytes w rows cells = (i j : ℕ) → i < rows → j < w → AreByBytes (cells i j).attributes
 
--- a printable character under such attributes
+-- a character of one column under such attributes
 abbrev pub IsInk : StyledCell → Type 0
-IsInk x = (is_printable x.ch ≡ true) × AreByBytes x.attributes
+IsInk x = IsSingle x.ch × AreByBytes x.attributes
 
 -- nothing stands below the first rows
 abbrev pub IsBlankFrom : ℕ → (ℕ → ℕ → StyledCell) → Type 0

@@ -1,3 +1,4 @@
+pub mod SingleCharacters
 pub mod StyledScreens
 pub mod Differences
 pub mod Redrawings

@@ -10,6 +10,7 @@ use Rattle.tw_surface.specs.Defaults.{default_color}
 use Rattle.laws_screens.specs.Strokes.{cleared_in}
 use Rattle.laws_screens.specs.StyledCells.{StyledCell}
 use Rattle.tw_sparing.specs.declared.hand.Hand.{Hand}
+use Rattle.tw_sparing.specs.SingleCharacters.{number_bytes}
 use Rattle.tw_line.specs.Extremes.{least_from, greatest_below}
 use Rattle.tw_sparing.specs.Differences.{is_same_cell, differ_in, first_changed, last_changed, blank_cell, end_of}
 
@@ -46,7 +47,7 @@ indexed w cells k = cells (k / w) (k % w)
 
 -- a character is typed in the cell of an index: from after the last column a terminal goes to the next row by itself
 abbrev pub typed_in_cell : ℕ → ℕ → ℕ → Hand → Redrawing
-typed_in_cell w k ch hand = record { changes = Text (ch ∷ []) ∷ []; hand = record hand { row = k / w; col = k % w + 1 } }
+typed_in_cell w k ch hand = record { changes = Text (number_bytes ch) ∷ []; hand = record hand { row = k / w; col = k % w + 1 } }
 
 -- the cell of an index, which the cursor stands before
 abbrev pub cell_redrawn : ℕ → (ℕ → ℕ → StyledCell) → ℕ → Hand → Redrawing

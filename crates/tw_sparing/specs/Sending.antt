@@ -1,8 +1,8 @@
 -- What is added to a text for the difference of two screens.
-use Rattle.std.specs.Prelude.{◌≡◌, ◌<◌, ℕ, ◌+◌, ◌*◌, true, List, ◌++◌}
+use Rattle.std.specs.Prelude.{◌≡◌, ◌<◌, ℕ, ◌+◌, ◌*◌, List, ◌++◌}
 use Rattle.tw_surface.specs.ChangeView.{Batch}
-use Rattle.tw_surface.specs.Characters.{is_printable}
 use Rattle.laws_screens.specs.StyledCells.{StyledCell}
+use Rattle.tw_sparing.specs.SingleCharacters.{IsSingle}
 use Rattle.tw_sparing.specs.StyledScreens.{StyledView, styled_at}
 use Rattle.tw_ansi.specs.Encoding.{terse_batch}
 use Rattle.tw_sparing.specs.declared.hand.Hand.{Hand}
@@ -17,13 +17,13 @@ screen_cells screen r c = styled_at screen (r * screen.width + c)
 abbrev pub hand_of : StyledView → Hand
 hand_of screen = record { row = screen.row; col = screen.col; attributes = screen.kept }
 
--- the cells of a row of w columns hold printable characters
-abbrev pub ArePrintable : ℕ → (ℕ → StyledCell) → Type 0
-ArePrintable w line = (j : ℕ) → j < w → is_printable (line j).ch ≡ true
+-- the cells of a row of w columns hold characters of one column
+abbrev pub AreSingle : ℕ → (ℕ → StyledCell) → Type 0
+AreSingle w line = (j : ℕ) → j < w → IsSingle (line j).ch
 
 -- so do the first rows of a screen
-abbrev pub IsPrintable : ℕ → StyledView → Type 0
-IsPrintable rows screen = (i : ℕ) → i < rows → ArePrintable screen.width (screen_cells screen i)
+abbrev pub IsTypable : ℕ → StyledView → Type 0
+IsTypable rows screen = (i : ℕ) → i < rows → AreSingle screen.width (screen_cells screen i)
 
 -- the changes that make one screen of another, which has reached so many rows
 abbrev pub changes_between : ℕ → ℕ → StyledView → StyledView → Batch

@@ -27,7 +27,7 @@ NoBatchIsSentForNothing = (rows cols : ℕ) (batch : Batch) (old new : Shown) �
     → hand_below top new ≡ hand_below top old
     → (e : Encoder) → (sent_for rows batch (Some old) (Some new) e).bytes ≡ []
 
--- and of printable characters that were typed at the cursor, these alone are sent
+-- and of characters of one column that were typed at the cursor, these alone are sent
 abbrev pub TypedBatchIsSentAlone : Type 0
 TypedBatchIsSentAlone = (rows cols n : ℕ) (batch : Batch) (old new : Shown) (e : Encoder) → IsKnownAfter cols rows batch (Some old) (Some new) → new.reached ≡ old.reached
     → let top = left_behind rows new in

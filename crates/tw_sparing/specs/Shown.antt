@@ -1,10 +1,8 @@
 -- What a terminal shows, as far as it is known.
 use Rattle.std.specs.Prelude.{◌≡◌, ◌≤◌, ◌<◌, ◌+◌, ◌-◌, ◌⊎◌, ℕ, zero, pos, negsuc, ltb, max, Bool, true, false, not, Option, Some, None, [], ◌∷◌, ◌++◌, ⊤, leb, if◌then◌else◌}
-use Rattle.std.specs.List.{list_all}
 use Rattle.tw_surface.specs.declared.change.Position.{Position}
 use Rattle.tw_surface.specs.declared.change.Position.TheVariants.{Absolute, Relative}
 use Rattle.tw_surface.specs.declared.color.ColorAttribute.{ColorAttribute}
-use Rattle.tw_surface.specs.Characters.{is_plain}
 use Rattle.tw_surface.specs.Defaults.{default_color}
 use Rattle.tw_surface.specs.ChangeView.{ChangeView, Batch}
 use Rattle.tw_surface.specs.ChangeView.{Attribute, AllAttributes, Text, ClearScreen, ClearToEndOfScreen, CursorPosition}
@@ -15,9 +13,9 @@ use Rattle.tw_ansi.specs.declared.encode.Encoder.{Encoder}
 use Rattle.tw_ansi.specs.EcmaLaws.{IsAttribute}
 use Rattle.tw_ansi.specs.Encoding.{Sent, sent_batch, terse_batch}
 use Rattle.tw_ansi.specs.Sequences.{most_rows}
-use Rattle.tw_sparing.specs.StyledScreens.{StyledView, AreDrawn, IsSameBut, at_row, blank_styled, paper_cell, styled_cell, without_rows}
+use Rattle.tw_sparing.specs.StyledScreens.{StyledView, AreDrawn, IsSameBut, IsShownSame, at_row, blank_styled, paper_cell, styled_cell, without_rows}
 use Rattle.tw_sparing.specs.ChangedScreens.{AreByBytes, AreAllByBytes}
-use Rattle.tw_sparing.specs.Sending.{IsPrintable, screen_cells, changes_between}
+use Rattle.tw_sparing.specs.Sending.{IsTypable, screen_cells, changes_between}
 use Rattle.tw_sparing.specs.declared.shown.Shown.{Shown}
 
 -- ---- what is known
@@ -45,14 +43,14 @@ IsStillKnown None (Some left) = ⊥
 IsStillKnown (Some shown) (Some left) = (left ≡ shown) ⊎ (left ≡ from_cursor shown)
 
 -- a screen of no more rows than can be told, on a terminal of no more, with its cursor in one of its columns and in one
--- of the last rows that it has reached, and printable characters under colours by bytes in its cells
+-- of the last rows that it has reached, and characters of one column under colours by bytes in its cells
 pub record FitsTerminal (rows : ℕ) (shown : Shown) : Type 0 where
   pub tall : rows ≤ most_rows
   pub most : shown.reached ≤ 65535
   pub row : shown.reached - rows ≤ shown.screen.row
   pub low : shown.screen.row < shown.reached
   pub col : shown.screen.col < shown.screen.width
-  pub printable : IsPrintable shown.reached shown.screen
+  pub typable : IsTypable shown.reached shown.screen
   pub colors : AreAllByBytes shown.screen.width shown.reached (screen_cells shown.screen)
   pub kept : AreByBytes shown.screen.kept
 
@@ -70,10 +68,10 @@ IsInSight above (Absolute row) = ⊥
 IsInSight above (Relative (pos n)) = ⊤
 IsInSight above (Relative (negsuc n)) = n < above
 
--- a change that does on a terminal what it does on a screen without a bottom: a plain text, attributes, a move in
+-- a change that does on a terminal what it does on a screen without a bottom: a text that is shown as it is measured, attributes, a move in
 -- sight, and a clearing to blanks from a cursor on that does not wait after the last column
 abbrev pub IsPlayable : ℕ → Shown → ChangeView → Type 0
-IsPlayable rows shown (Text text) = list_all is_plain text ≡ true
+IsPlayable rows shown (Text text) = IsShownSame shown.screen.width (Text text)
 IsPlayable rows shown (Attribute change) = IsAttribute change
 IsPlayable rows shown (AllAttributes to) = AreByBytes to
 IsPlayable rows shown (ClearScreen color) = ⊥

@@ -1,20 +1,26 @@
 -- What a screen of characters and attributes holds, and the pictures that it shows.
-use Rattle.std.specs.Prelude.{ℕ, ◌≡◌, ◌+◌, ◌-◌, ◌*◌, drop, ◌<◌, ◌≤◌, eqb, if◌then◌else◌, Bool, true, max, Option, IfSome, option_map, List, [], ◌∷◌, ◌++◌, chars, map, slice_index_or}
+use Rattle.std.specs.Prelude.{ℕ, ◌≡◌, ◌+◌, ◌-◌, ◌*◌, drop, ◌<◌, ◌≤◌, eqb, if◌then◌else◌, Bool, true, max, Option, IfSome, option_map, List, [], ◌∷◌, ◌++◌, ⊤, map, slice_index_or}
 use Rattle.laws_screens.specs.Strokes.{PictureOf, Stroke, steps}
 use Rattle.tw_surface.specs.declared.cell.CellAttributes.{CellAttributes}
 use Rattle.tw_surface.specs.declared.color.ColorAttribute.{ColorAttribute}
 use Rattle.tw_surface.specs.ChangeView.{ChangeView}
-use Rattle.tw_surface.specs.ChangeView.{Attribute, AllAttributes, Text, ClearScreen, ClearToEndOfScreen, CursorPosition}
+use Rattle.tw_surface.specs.ChangeView.{Text, ClearToEndOfScreen, CursorPosition}
 use Rattle.tw_surface.specs.Defaults.{default_attributes, default_color}
 use Rattle.tw_surface.specs.Pictures.{blank}
-use Rattle.laws_screens.specs.Pens.{char_stroke, led}
-use Rattle.laws_screens.specs.Strokes.Stroke.{Clear, ClearBehind, Move}
+use Rattle.std.specs.List.{flat_map}
+use Rattle.tw_surface.specs.Characters.{cr, lf}
+use Rattle.tw_surface.specs.Places.{cluster_piece}
+use Rattle.laws_screens.specs.Glyphs.{glyphs_of_piece}
+use Rattle.laws_screens.specs.Pens.{change_strokes, glyph_stroke}
+use Rattle.laws_screens.specs.Strokes.Stroke.{Put, Return, Feed}
+use Rattle.tw_ansi.specs.EcmaTexts.{is_sent}
 use Rattle.laws_screens.specs.StyledCells.{StyledCell, styled}
 use Rattle.tw_sparing.specs.declared.cell.ScreenCell.{ScreenCell}
+use Rattle.tw_sparing.specs.SingleCharacters.{character_number}
 
 -- a cell of the screen, as one of a picture
 abbrev pub styled_cell : ScreenCell → StyledCell
-styled_cell cell = record { ch = cell.character; attributes = cell.attributes }
+styled_cell cell = record { ch = character_number cell.character; attributes = cell.attributes }
 
 -- a character under attributes
 abbrev pub cell_under : CellAttributes → ℕ → ScreenCell
@@ -84,14 +90,13 @@ pub record ShowsSame (old new : StyledView) : Type 0 where
   pub row : new.row ≡ old.row
   pub col : new.col ≡ old.col
 
--- the strokes of a change, a text by its characters
-abbrev pub screen_strokes : CellAttributes → ChangeView → List (Stroke StyledCell)
-screen_strokes a (Text text) = map (char_stroke styled a) (chars text)
-screen_strokes a (Attribute x) = []
-screen_strokes a (AllAttributes x) = []
-screen_strokes a (ClearScreen color) = Clear (styled.paper color) ∷ []
-screen_strokes a (ClearToEndOfScreen color) = ClearBehind (styled.paper color) ∷ []
-screen_strokes a (CursorPosition x y) = Move (led y) (led x) ∷ []
+-- the stroke of a character that moves the cursor or takes one cell
+abbrev pub character_stroke : CellAttributes → ℕ → Stroke StyledCell
+character_stroke a ch = if eqb ch cr then Return else if eqb ch lf then Feed else Put (styled_cell (cell_under a ch) ∷ [])
+
+-- the strokes of clusters
+abbrev pub cluster_strokes : CellAttributes → List (List ℕ) → List (Stroke StyledCell)
+cluster_strokes a clusters = map (glyph_stroke styled a) (flat_map (λ cluster. glyphs_of_piece cluster (cluster_piece cluster)) clusters)
 
 -- a cell was put at a place of the line of all rows
 pub record IsPutAt (place : ℕ) (cell : StyledCell) (old new : StyledView) : Type 0 where
@@ -108,19 +113,24 @@ pub record IsSameBut (old new : StyledView) : Type 0 where
   pub width : new.width ≡ old.width
   pub kept : new.kept ≡ old.kept
 
--- a beginning of a text was written
-pub record WritesBeginning (text : List ℕ) (old new : StyledView) : Type 0 where
-  pub written : List ℕ
-  pub left : List ℕ
-  pub parts : chars text ≡ written ++ left
-  pub draws : AreDrawn old (map (char_stroke styled old.kept) written) new
+-- a beginning of strokes was drawn
+pub record DrawsBeginning (strokes : List (Stroke StyledCell)) (old new : StyledView) : Type 0 where
+  pub drawn : List (Stroke StyledCell)
+  pub left : List (Stroke StyledCell)
+  pub parts : strokes ≡ drawn ++ left
+  pub draws : AreDrawn old drawn new
 
--- what a refused change leaves: of a text a beginning is written, and else the screen shows what it showed
+-- what a refused change leaves: of a text a beginning is drawn, and else the screen shows what it showed
 abbrev pub IsRefusedAt : ChangeView → StyledView → StyledView → Type 0
-IsRefusedAt (Text text) old new = WritesBeginning text old new
+IsRefusedAt (Text text) old new = DrawsBeginning (change_strokes styled old.kept (Text text)) old new
 IsRefusedAt (ClearToEndOfScreen color) old new = AreDrawn old [] new
 IsRefusedAt (CursorPosition x y) old new = new ≡ old
 IsRefusedAt _ old new = ⊥
+
+-- any change but a text that a terminal of w columns shows otherwise than it is measured
+abbrev pub IsShownSame : ℕ → ChangeView → Type 0
+IsShownSame w (Text text) = is_sent w text ≡ true
+IsShownSame w _ = ⊤
 
 -- a change that is played whatever there is
 abbrev pub IsSure : ChangeView → Type 0

@@ -6,9 +6,9 @@ ghost use Rattle.tw_sparing.specs.ChangedScreens.{AreByBytes, AreAllByBytes};
 ghost use Rattle.tw_sparing.specs.Differences.{differ_in, is_same_cell, first_changed, last_changed, is_used, end_of};
 ghost use Rattle.tw_line.specs.Extremes.{greatest_below, least_from};
 ghost use Rattle.tw_sparing.specs.Redrawings.{ends_blank, goes_onward, indexed, left_of};
-ghost use Rattle.tw_sparing.specs.Sending.{ArePrintable, IsPrintable, screen_cells};
+ghost use Rattle.tw_sparing.specs.Sending.{AreSingle, IsTypable, screen_cells};
 
-use crate::cell::ScreenCell;
+use crate::cell::{ScreenCell, is_same, is_single};
 use crate::hand::Hand;
 use crate::laws::colors;
 use crate::screen::StyledScreen;
@@ -41,10 +41,11 @@ fn differ_at(
     ensures { result ≡ differ_in (left_of old.now.width from (screen_cells old.now) row)
         (screen_cells new.now row) col }
 {
-    left_at(old, from, row, col) != *new.at(row, col)
+    !is_same(&left_at(old, from, row, col), new.at(row, col))
 }
 
 /// Returns true if two cells differ. If `is_plain`, it is known that both have the same attributes.
+#[tactic(auto, using(crate::proofs::SingleCharacters::same_number))]
 fn is_other(old: &ScreenCell, new: &ScreenCell, is_plain: bool) -> bool
     requires { is_plain ≡ true → old.now.attributes ≡ new.now.attributes }
     ensures { result ≡ not (is_same_cell (styled_cell old.now) (styled_cell new.now)) }
@@ -121,7 +122,10 @@ fn is_used(screen: &StyledScreen, index: usize) -> bool
     ensures { result ≡ is_used screen.now.width (screen_cells screen.now) index }
 {
     let width = screen.width();
-    *screen.at(index / width, index % width) != ScreenCell::blank(ColorAttribute::Default)
+    !is_same(
+        screen.at(index / width, index % width),
+        &ScreenCell::blank(ColorAttribute::Default),
+    )
 }
 
 /// Returns where the cells of some rows end: the index after the last one that is not blank.
@@ -174,7 +178,10 @@ fn is_same_before(old: &StyledScreen, new: &StyledScreen, end: usize) -> bool
 fn ends_blank(screen: &StyledScreen, row: usize) -> bool
     ensures { result ≡ ends_blank screen.now.width (screen_cells screen.now) row }
 {
-    *screen.at(row, screen.width() - 1) == ScreenCell::blank(ColorAttribute::Default)
+    is_same(
+        screen.at(row, screen.width() - 1),
+        &ScreenCell::blank(ColorAttribute::Default),
+    )
 }
 
 /// Returns true if none of the rows from one to before another ends in a blank.
@@ -219,17 +226,17 @@ pub fn goes_onward(
         && are_full(new, hand.row, end / width)
 }
 
-/// Returns true if the cells of a row are printable characters.
-fn is_printable_row(screen: &StyledScreen, row: usize) -> bool
-    ensures yes { result ≡ true → ArePrintable screen.now.width (screen_cells screen.now row) }
-    ensures no { result ≡ false → ArePrintable screen.now.width (screen_cells screen.now row) → ⊥ }
+/// Returns true if the cells of a row are characters of one column.
+fn is_typable_row(screen: &StyledScreen, row: usize) -> bool
+    ensures yes { result ≡ true → AreSingle screen.now.width (screen_cells screen.now row) }
+    ensures no { result ≡ false → AreSingle screen.now.width (screen_cells screen.now row) → ⊥ }
     ensures colors { result ≡ true → (j : ℕ) → j < screen.now.width
         → AreByBytes (screen_cells screen.now row j).attributes }
 {
     let cells = screen.cells_from(row);
     for col in 0..screen.width() {
         let cell = screen.cell_of(cells, col);
-        if !(' '..='~').contains(&cell.character) {
+        if !is_single(cell.character) {
             return false;
         }
         colors(cell.attributes);
@@ -237,14 +244,14 @@ fn is_printable_row(screen: &StyledScreen, row: usize) -> bool
     true
 }
 
-/// Returns true if the cells of the first rows are printable characters. Their colours are by bytes.
-pub fn is_printable(screen: &StyledScreen, rows: usize) -> bool
-    ensures yes { result ≡ true → IsPrintable rows screen.now }
-    ensures no { result ≡ false → IsPrintable rows screen.now → ⊥ }
+/// Returns true if the cells of the first rows are characters of one column. Their colours are by bytes.
+pub fn is_typable(screen: &StyledScreen, rows: usize) -> bool
+    ensures yes { result ≡ true → IsTypable rows screen.now }
+    ensures no { result ≡ false → IsTypable rows screen.now → ⊥ }
     ensures colors { result ≡ true → AreAllByBytes screen.now.width rows (screen_cells screen.now) }
 {
     for row in 0..rows {
-        if !is_printable_row(screen, row) {
+        if !is_typable_row(screen, row) {
             return false;
         }
     }

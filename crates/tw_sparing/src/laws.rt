@@ -20,8 +20,9 @@ pub fn changed()
     ensures { ChangedIsShown }
 {}
 
-/// Where nothing differs nothing is sent, and of printable characters that were typed at the cursor, under the
-/// attributes that are selected, and no others: in its row, or through the rows where the screen ends with them.
+/// Where nothing differs nothing is sent, and of characters of one column that were typed at the cursor, under the
+/// attributes that are selected, their bytes and no others: in its row, or through the rows where the screen ends with
+/// them.
 pub fn short_differences()
     ensures nothing { NothingIsSentForNothing }
     ensures typed { TypedIsSentAlone }
@@ -82,8 +83,8 @@ pub fn runs()
     ensures same { LooksTheSame }
 {}
 
-/// Where nothing differs nothing is sent for a batch, and of printable characters that were typed at the cursor, under
-/// the attributes that are selected, these alone.
+/// Where nothing differs nothing is sent for a batch, and of characters of one column that were typed at the cursor,
+/// under the attributes that are selected, their bytes alone.
 pub fn shortness()
     ensures nothing { NoBatchIsSentForNothing }
     ensures typed { TypedBatchIsSentAlone }

@@ -1,8 +1,8 @@
 //! A terminal over a writer that is sent what differs, and not all that is painted.
 //!
 //! Use `PatientTerminal` in the place of `AnsiTerminal` to send fewer bytes, and none while more keys are at hand
-//! (docs/SPEED.md). It keeps a model of what is shown, a `StyledScreen`, whose cells hold characters under their
-//! attributes.
+//! (docs/SPEED.md). It keeps a model of what is shown, a `StyledScreen`, whose cells hold characters of one
+//! column under their attributes: a line with any other is sent as it is painted.
 //!
 //! From `crates/prompt_demo/src/main.rt`:
 //!

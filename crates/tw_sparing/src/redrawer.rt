@@ -1,15 +1,17 @@
 //! What is sent for the difference of two screens.
 
-ghost use Rattle.std.specs.Prelude.{◌≡◌, ℕ, true, ◌<◌, ◌≤◌, ◌+◌, ◌-◌, ◌*◌, ◌/◌, ◌++◌, OnOk, OnErr, IfOk, IfSome, Option, string_bytes};
-ghost use Rattle.tw_surface.specs.Characters.{is_printable};
+ghost use Rattle.std.specs.Prelude.{◌≡◌, ℕ, ◌<◌, ◌≤◌, ◌+◌, ◌-◌, ◌*◌, ◌/◌, ◌++◌, OnOk, OnErr, IfOk, IfSome, Option, string_bytes};
+ghost use Rattle.std.specs.Prelude.{[], ◌∷◌, encode_utf8};
+ghost use Rattle.tw_surface.specs.ChangeView.{Text};
+ghost use Rattle.tw_sparing.specs.SingleCharacters.{IsSingle, character_number};
 ghost use Rattle.tw_ansi.specs.Encoding.{ExtendsBytes, terse_batch};
 ghost use Rattle.tw_sparing.specs.Redrawings.{led_to, under, row_redrawn, rows_redrawn, handed_to, emptied_here, rest_emptied, rest_of, left_of, fed, sunk_to, lowered, hand_index, indexed, cell_redrawn, cells_redrawn, redraw_then, redrawn};
-ghost use Rattle.tw_sparing.specs.Sending.{IsAdded, IsPrintable, screen_cells, changes_between, hand_of};
+ghost use Rattle.tw_sparing.specs.Sending.{AreSingle, IsAdded, IsTypable, screen_cells, changes_between, hand_of};
 
 use crate::difference::{end_of, first_changed, goes_onward, last_changed, rest_of};
 use crate::hand::Hand;
 use crate::screen::StyledScreen;
-use std::alloc::AllocError;
+use std::alloc::{AllocError, Global};
 use tw_ansi::Encoder;
 use tw_surface::{CellAttributes, Change, ColorAttribute, Position};
 
@@ -62,16 +64,40 @@ impl Redrawer {
         Ok(())
     }
 
+    /// Types a character of one column. The hand stays.
+    fn write_character(
+        &mut self,
+        alloc: Global,
+        character: char,
+        out: &mut String,
+    ) -> Result<(), AllocError>
+        requires { IsSingle (character_number character) }
+        ensures bytes { OnOk result (string_bytes out.new ≡ string_bytes out.old
+            ++ (terse_batch (Text (encode_utf8 character) ∷ []) self.old.encoder).bytes) }
+        ensures next { OnOk result (self.new.encoder
+            ≡ (terse_batch (Text (encode_utf8 character) ∷ []) self.old.encoder).next) }
+        ensures hand { self.new.hand ≡ self.old.hand }
+        ensures err { OnErr result (ExtendsBytes (string_bytes out.old) (string_bytes out.new)) }
+    {
+        if character.is_ascii() {
+            return self.encoder.encode_byte(character as u8, out);
+        }
+        let mut text = String::new(alloc);
+        text.push(character)?;
+        self.encoder.encode_tersely(&Change::Text(text), out)
+    }
+
     /// Types the cell of an index, counted along the rows, which the cursor stands before: after the last column the
     /// terminal goes to the next row by itself.
     fn write_cell(
         &mut self,
+        alloc: Global,
         screen: &StyledScreen,
         index: usize,
         out: &mut String,
     ) -> Result<(), AllocError>
-        requires printable { is_printable
-            (indexed screen.now.width (screen_cells screen.now) index).ch ≡ true }
+        requires single { IsSingle
+            (indexed screen.now.width (screen_cells screen.now) index).ch }
         ensures ok { OnOk result (IsAdded
             (cell_redrawn screen.now.width (screen_cells screen.now) index self.old.hand) self.old
             (string_bytes out.old) self.new (string_bytes out.new)) }
@@ -81,7 +107,7 @@ impl Redrawer {
         let width = screen.width();
         let cell = *screen.at(index / width, index % width);
         self.select(cell.attributes, out)?;
-        self.encoder.encode_byte(cell.character as u8, out)?;
+        self.write_character(alloc, cell.character, out)?;
         self.hand.row = index / width;
         self.hand.col = index % width + 1;
         Ok(())
@@ -91,13 +117,14 @@ impl Redrawer {
     /// them.
     fn write_cells(
         &mut self,
+        alloc: Global,
         screen: &StyledScreen,
         from: usize,
         to: usize,
         out: &mut String,
     ) -> Result<(), AllocError>
-        requires printable { (index : ℕ) → from ≤ index → index < to
-            → is_printable (indexed screen.now.width (screen_cells screen.now) index).ch ≡ true }
+        requires single { (index : ℕ) → from ≤ index → index < to
+            → IsSingle (indexed screen.now.width (screen_cells screen.now) index).ch }
         requires to { to ≤ 4294967296 * screen.now.width }
         requires held { self.old.hand.row ≤ 4294967295 }
         ensures ok { OnOk result (IsAdded
@@ -107,7 +134,7 @@ impl Redrawer {
         ensures err { OnErr result (ExtendsBytes (string_bytes out.old) (string_bytes out.new)) }
     {
         for index in from..to {
-            self.write_cell(screen, index, out)?;
+            self.write_cell(alloc, screen, index, out)?;
         }
         Ok(())
     }
@@ -115,6 +142,7 @@ impl Redrawer {
     /// Types what differs in a row of two screens, the old one being emptied from an index on.
     fn draw_row(
         &mut self,
+        alloc: Global,
         old: &StyledScreen,
         from: Option<usize>,
         new: &StyledScreen,
@@ -122,8 +150,7 @@ impl Redrawer {
         out: &mut String,
     ) -> Result<(), AllocError>
         requires width { old.now.width ≡ new.now.width }
-        requires printable { (j : ℕ) → j < new.now.width
-            → is_printable (screen_cells new.now row j).ch ≡ true }
+        requires single { AreSingle new.now.width (screen_cells new.now row) }
         requires row { row ≤ 4294967295 }
         requires held { self.old.hand.row ≤ 4294967295 }
         ensures ok { OnOk result (IsAdded
@@ -141,12 +168,13 @@ impl Redrawer {
         };
         self.lead_to(row, first, out)?;
         let start = row * new.width();
-        self.write_cells(new, start + first, start + last + 1, out)
+        self.write_cells(alloc, new, start + first, start + last + 1, out)
     }
 
     /// Types what differs in some rows of two screens, the old one being emptied from an index on.
     fn draw_rows(
         &mut self,
+        alloc: Global,
         old: &StyledScreen,
         from: Option<usize>,
         new: &StyledScreen,
@@ -154,7 +182,7 @@ impl Redrawer {
         out: &mut String,
     ) -> Result<(), AllocError>
         requires width { old.now.width ≡ new.now.width }
-        requires printable { IsPrintable rows new.now }
+        requires typable { IsTypable rows new.now }
         requires rows { rows ≤ 65535 }
         requires held { self.old.hand.row ≤ 4294967295 }
         ensures ok { OnOk result (IsAdded
@@ -165,7 +193,7 @@ impl Redrawer {
         ensures err { OnErr result (ExtendsBytes (string_bytes out.old) (string_bytes out.new)) }
     {
         for row in 0..rows {
-            self.draw_row(old, from, new, row, out)?;
+            self.draw_row(alloc, old, from, new, row, out)?;
         }
         Ok(())
     }
@@ -275,14 +303,15 @@ impl Redrawer {
     /// Types the cells of a screen's rows from the cursor to before an index, and goes where a hand is.
     fn go_on(
         &mut self,
+        alloc: Global,
         reached: usize,
         new: &StyledScreen,
         end: usize,
         to: Hand,
         out: &mut String,
     ) -> Result<(), AllocError>
-        requires printable { (index : ℕ) → index < end
-            → is_printable (indexed new.now.width (screen_cells new.now) index).ch ≡ true }
+        requires single { (index : ℕ) → index < end
+            → IsSingle (indexed new.now.width (screen_cells new.now) index).ch }
         requires end { end ≤ 4294967296 * new.now.width }
         requires to { to.row ≤ 4294967295 }
         requires row { self.old.hand.row ≤ 4294967295 }
@@ -295,7 +324,7 @@ impl Redrawer {
         ensures err { OnErr result (ExtendsBytes (string_bytes out.old) (string_bytes out.new)) }
     {
         let from = self.hand.row * new.width() + self.hand.col;
-        self.write_cells(new, from, end, out)?;
+        self.write_cells(alloc, new, from, end, out)?;
         self.hand_over(reached, to, out)
     }
 
@@ -303,6 +332,7 @@ impl Redrawer {
     /// stands after the end of the new screen is emptied, and the rows that differ are typed.
     fn redraw(
         &mut self,
+        alloc: Global,
         old: &StyledScreen,
         reached: usize,
         new: &StyledScreen,
@@ -311,7 +341,7 @@ impl Redrawer {
         out: &mut String,
     ) -> Result<(), AllocError>
         requires width { old.now.width ≡ new.now.width }
-        requires printable { IsPrintable rows new.now }
+        requires typable { IsTypable rows new.now }
         requires rows { rows ≤ 65535 }
         requires to { to.row ≤ 4294967295 }
         requires held { self.old.hand.row ≤ 4294967295 }
@@ -323,12 +353,12 @@ impl Redrawer {
     {
         let end = end_of(new, rows);
         if goes_onward(old, reached, new, rows, end, self.hand, to) {
-            return self.go_on(reached, new, end, to, out);
+            return self.go_on(alloc, reached, new, end, to, out);
         }
         let rest = rest_of(old, rows, end);
         self.lower(reached, rows, out)?;
         self.empty_rest(new.width(), rest, out)?;
-        self.draw_rows(old, rest, new, rows, out)?;
+        self.draw_rows(alloc, old, rest, new, rows, out)?;
         self.hand_over(reached.max(rows), to, out)
     }
 }
@@ -351,6 +381,7 @@ fn hand_of(screen: &StyledScreen) -> Hand
 /// is then known of it. No more than the first `rows` rows may differ, and the terminal has reached the first `reached`
 /// of them before. A refusal may have added a part of it.
 pub fn send_changed(
+    alloc: Global,
     old: &StyledScreen,
     reached: usize,
     new: &StyledScreen,
@@ -359,7 +390,7 @@ pub fn send_changed(
     out: &mut String,
 ) -> Result<Encoder, AllocError>
     requires width { old.now.width ≡ new.now.width }
-    requires printable { IsPrintable rows new.now }
+    requires typable { IsTypable rows new.now }
     requires rows { rows ≤ 65535 }
     ensures bytes { OnOk result (string_bytes out.new
         ≡ string_bytes out.old ++ (terse_batch (changes_between reached rows old.now new.now)
@@ -372,6 +403,6 @@ pub fn send_changed(
         hand: hand_of(old),
         encoder,
     };
-    redrawer.redraw(old, reached, new, rows, hand_of(new), out)?;
+    redrawer.redraw(alloc, old, reached, new, rows, hand_of(new), out)?;
     Ok(redrawer.encoder)
 }

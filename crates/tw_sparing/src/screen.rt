@@ -2,19 +2,23 @@
 
 ghost use Rattle.std.specs.Prelude.{◌≡◌, ℕ, ◌+◌, ◌*◌, ◌<◌, ◌≤◌, ◌↔◌, [], ◌∷◌, ◌++◌, chars, map, max, length, Ok, Err, IfOk, OnOk, OnErr, slice_index_or, eqb, if◌then◌else◌, true};
 ghost use Rattle.std.specs.List.{list_all};
+ghost use Rattle.unicode_segmentation.specs.Grapheme.{graphemes};
 ghost use Rattle.tw_surface.specs.Characters.{is_printable};
 ghost use Rattle.tw_surface.specs.ChangeView.{change_view};
 ghost use Rattle.tw_surface.specs.Defaults.{default_color};
-ghost use Rattle.laws_screens.specs.Strokes.Stroke.{Clear, ClearBehind, Move, Put};
-ghost use Rattle.laws_screens.specs.Pens.{char_stroke, kept_after, led};
+ghost use Rattle.tw_surface.specs.ChangeView.{Text};
+ghost use Rattle.laws_screens.specs.Strokes.Stroke.{Clear, ClearBehind, Feed, Move, Put, Return};
+ghost use Rattle.laws_screens.specs.Pens.{change_strokes, kept_after, led};
+ghost use Rattle.tw_ansi.specs.EcmaTexts.{is_sent_cluster};
 ghost use Rattle.laws_screens.specs.StyledCells.{styled};
-ghost use Rattle.tw_sparing.specs.StyledScreens.{AreDrawn, IsPlainFrom, IsPutAt, IsRefusedAt, IsSameBut, IsSure, ShowsSame, WritesBeginning, at_row, blank_styled, cell_under, paper_cell, plain_behind, screen_strokes, styled_cell, without_rows};
+ghost use Rattle.tw_sparing.specs.StyledScreens.{AreDrawn, DrawsBeginning, IsPlainFrom, IsPutAt, IsRefusedAt, IsSameBut, IsShownSame, IsSure, ShowsSame, at_row, blank_styled, cell_under, character_stroke, cluster_strokes, paper_cell, plain_behind, styled_cell, without_rows};
 
-use crate::cell::ScreenCell;
+use crate::cell::{ScreenCell, is_single};
 use std::alloc::{AllocError, Global};
 use std::marker::Model;
 use tw_surface::{
-    CellAttributes, Change, ColorAttribute, Position, ScreenFault, SizeFault, is_printable_text,
+    CellAttributes, Change, ColorAttribute, Piece, Position, ScreenFault, SizeFault, is_plain_text,
+    is_printable_text, split_cluster,
 };
 
 /// The greatest width.
@@ -204,14 +208,16 @@ impl StyledScreen {
     }
 
     /// Plays a change. What is refused for its row leaves the screen as it was; a text that is refused in its middle is
-    /// there up to the character for which there was no room, and a clearing for which there is none is not played.
+    /// there up to the cluster that was refused, and a clearing for which there is no room is not played. A text fails
+    /// with `NotPlain` if it is not plain and has a cluster that is neither CR, LF, both, nor a character of one column.
     pub fn apply(&mut self, change: &Change) -> Result<(), ScreenFault>
         ensures width { self.new.width ≡ self.old.width }
         ensures played { OnOk result (AreDrawn self.old
-            (screen_strokes self.old.kept (change_view change.now))
+            (change_strokes styled self.old.kept (change_view change.now))
             self.new) }
         ensures kept { OnOk result (self.new.kept
             ≡ kept_after styled self.old.kept (change_view change.now)) }
+        ensures sent { OnOk result (IsShownSame self.old.width (change_view change.now)) }
         ensures refused { OnErr result (IsRefusedAt (change_view change.now) self.old self.new) }
         ensures sure { IsSure (change_view change.now) → result ≡ Ok tt }
     {
@@ -311,7 +317,7 @@ impl StyledScreen {
     fn play(&mut self, character: char) -> Result<(), ScreenFault>
         ensures same { IsSameBut self.old self.new }
         ensures shown { OnOk result (AreDrawn self.old
-            (char_stroke styled self.old.kept character ∷ []) self.new) }
+            (character_stroke self.old.kept character ∷ []) self.new) }
         ensures refused { OnErr result (AreDrawn self.old [] self.new) }
     {
         match character {
@@ -349,7 +355,7 @@ impl StyledScreen {
         requires room { length self.old.cells + length text.now ≤ 4294967295 }
         ensures same { IsSameBut self.old self.new }
         ensures shown { OnOk result (AreDrawn self.old
-            (map (char_stroke styled self.old.kept) text.now) self.new) }
+            (map (character_stroke self.old.kept) text.now) self.new) }
         ensures refused { OnErr result (ShowsSame self.old self.new) }
     {
         push_cells(&mut self.cells, text, self.kept)?;
@@ -360,30 +366,103 @@ impl StyledScreen {
         Ok(())
     }
 
-    /// Plays the characters of a text.
+    /// Plays a text.
     fn write(&mut self, text: &str) -> Result<(), ScreenFault>
         ensures same { IsSameBut self.old self.new }
         ensures shown { OnOk result (AreDrawn self.old
-            (map (char_stroke styled self.old.kept) (chars text.now)) self.new) }
-        ensures refused { OnErr result (WritesBeginning text.now self.old self.new) }
+            (change_strokes styled self.old.kept (Text text.now)) self.new) }
+        ensures sent { OnOk result (IsShownSame self.old.width (Text text.now)) }
+        ensures refused { OnErr result (DrawsBeginning
+            (change_strokes styled self.old.kept (Text text.now)) self.old self.new) }
     {
-        if self.goes_on(text.as_bytes()) {
-            return self.type_on(text.as_bytes());
+        let bytes = text.as_bytes();
+        if self.goes_on(bytes) {
+            return self.type_on(bytes);
         }
-        self.write_apart(text)
+        if is_plain_text(bytes) {
+            return self.write_apart(text);
+        }
+        self.write_clusters(text)
     }
 
-    /// Plays the characters of a text one by one.
+    /// Plays the characters of a text one by one, each in one cell.
     fn write_apart(&mut self, text: &str) -> Result<(), ScreenFault>
         ensures same { IsSameBut self.old self.new }
         ensures shown { OnOk result (AreDrawn self.old
-            (map (char_stroke styled self.old.kept) (chars text.now)) self.new) }
-        ensures refused { OnErr result (WritesBeginning text.now self.old self.new) }
+            (map (character_stroke self.old.kept) (chars text.now)) self.new) }
+        ensures refused { OnErr result (DrawsBeginning
+            (map (character_stroke self.old.kept) (chars text.now)) self.old self.new) }
     {
         for character in text.chars() {
             self.play(character)?;
         }
         Ok(())
+    }
+
+    /// Plays the clusters of a text one by one.
+    fn write_clusters(&mut self, text: &str) -> Result<(), ScreenFault>
+        ensures same { IsSameBut self.old self.new }
+        ensures shown { OnOk result (AreDrawn self.old
+            (cluster_strokes self.old.kept (graphemes true text.now)) self.new) }
+        ensures sent { OnOk result (list_all (is_sent_cluster self.old.width)
+            (graphemes true text.now) ≡ true) }
+        ensures refused { OnErr result (DrawsBeginning
+            (cluster_strokes self.old.kept (graphemes true text.now)) self.old self.new) }
+    {
+        let mut left = text;
+        while let Some((cluster, behind)) = split_cluster(left) {
+            self.play_cluster(cluster)?;
+            left = behind;
+        }
+        Ok(())
+    }
+
+    /// Plays a cluster of a text that is not plain.
+    fn play_cluster(&mut self, cluster: &str) -> Result<(), ScreenFault>
+        ensures same { IsSameBut self.old self.new }
+        ensures shown { OnOk result (AreDrawn self.old
+            (cluster_strokes self.old.kept (cluster.now ∷ [])) self.new) }
+        ensures sent { OnOk result (is_sent_cluster self.old.width cluster.now ≡ true) }
+        ensures refused { OnErr result (AreDrawn self.old [] self.new) }
+    {
+        match Piece::of_cluster(cluster) {
+            Piece::Cr => self.play('\r'),
+            Piece::Lf => self.play('\n'),
+            Piece::CrLf => self.return_and_feed(),
+            Piece::Wide(_) => self.put_single(cluster),
+        }
+    }
+
+    /// Goes to the start of the next row.
+    fn return_and_feed(&mut self) -> Result<(), ScreenFault>
+        ensures same { IsSameBut self.old self.new }
+        ensures shown { OnOk result (AreDrawn self.old (Return ∷ Feed ∷ []) self.new) }
+        ensures refused { OnErr result (AreDrawn self.old [] self.new) }
+    {
+        if self.row == LAST_ROW {
+            return Err(ScreenFault::OutOfRange);
+        }
+        self.row += 1;
+        self.col = 0;
+        Ok(())
+    }
+
+    /// Puts a cluster that is a character of one column, and refuses any other one.
+    fn put_single(&mut self, cluster: &str) -> Result<(), ScreenFault>
+        ensures same { IsSameBut self.old self.new }
+        ensures shown { OnOk result (AreDrawn self.old
+            (cluster_strokes self.old.kept (cluster.now ∷ [])) self.new) }
+        ensures sent { OnOk result (is_sent_cluster self.old.width cluster.now ≡ true) }
+        ensures refused { OnErr result (AreDrawn self.old [] self.new) }
+    {
+        let _ = &self.width;
+        let mut characters = cluster.chars();
+        match characters.next() {
+            Some(character) if characters.as_str().is_empty() && is_single(character) => {
+                self.put(character)
+            }
+            _ => Err(ScreenFault::NotPlain),
+        }
     }
 
     fn clear(&mut self, color: ColorAttribute)

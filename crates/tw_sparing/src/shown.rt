@@ -5,16 +5,17 @@ ghost use Rattle.tw_ansi.specs.Encoding.{terse_batch};
 ghost use Rattle.tw_surface.specs.ChangeView.{ClearToEndOfScreen, CursorPosition, batch_view, change_view};
 ghost use Rattle.tw_surface.specs.declared.change.Position.TheVariants.{Absolute};
 ghost use Rattle.tw_surface.specs.Defaults.{default_color};
-ghost use Rattle.tw_sparing.specs.Sending.{IsPrintable};
+ghost use Rattle.tw_sparing.specs.Sending.{IsTypable};
+ghost use Rattle.tw_sparing.specs.StyledScreens.{IsShownSame};
 ghost use Rattle.tw_sparing.specs.Shown.{changes_below, first_shown, from_cursor, goes_out_of_sight, left_behind, rows_above, Empties, EndsAtStart, IsBegunBy, FitsTerminal, IsDrawnAfter, IsEmptiedFrom, IsFromStart, IsStillKnown, IsInSight, IsKnownAfter, IsKnownBy, IsMovedBy, IsRefilled, IsShortMove, IsPlayable, IsPlayed, IsPlayedOnce, KeepsAbove, LeadsToStart, SetsAttributes};
 
-use crate::difference::{is_printable, is_same_in_row};
+use crate::difference::{is_same_in_row, is_typable};
 use crate::laws::{attribute, colors};
 use crate::redrawer::send_changed;
 use crate::screen::StyledScreen;
 use std::alloc::{AllocError, Global};
 use tw_ansi::Encoder;
-use tw_surface::{Change, ColorAttribute, Position, is_plain_text};
+use tw_surface::{Change, ColorAttribute, Position};
 use tw_terminal::ScreenSize;
 
 /// The most rows of a terminal and of what it shows: a move leads no further.
@@ -54,15 +55,16 @@ impl Shown {
         row.saturating_sub(self.left_behind(rows))
     }
 
-    /// Returns true if a change does on a terminal of `rows` rows what it does on this screen: a plain text,
-    /// attributes, a relative move to one of the rows that are in sight, and a clearing to blanks, where the cursor
-    /// does not wait.
+    /// Returns true if a change does on a terminal of `rows` rows what it does on this screen: a text that this screen
+    /// can play, attributes, a relative move to one of the rows that are in sight, and a clearing to blanks, where the
+    /// cursor does not wait.
     fn is_playable(&self, change: &Change, rows: usize) -> bool
-        ensures { result ≡ true → IsPlayable rows self.now (change_view change.now) }
+        ensures { result ≡ true → IsShownSame self.now.screen.width (change_view change.now)
+            → IsPlayable rows self.now (change_view change.now) }
     {
         let (_, col) = self.screen.cursor();
         match change {
-            Change::Text(text) => is_plain_text(text.as_bytes()),
+            Change::Text(_) => true,
             Change::CursorPosition { x: _, y } => is_in_sight(*y, self.rows_above(rows)),
             Change::ClearToEndOfScreen(color) => {
                 *color == ColorAttribute::Default && col < self.screen.width()
@@ -105,7 +107,7 @@ impl Shown {
     }
 
     /// Returns true if a terminal of `rows` rows can show it: its cursor stands in a column and in one of the last rows
-    /// that it has reached, and its cells hold printable characters.
+    /// that it has reached, and its cells hold characters of one column.
     fn is_fit(&self, rows: usize) -> bool
         ensures { result ≡ true → FitsTerminal rows self.now }
     {
@@ -116,7 +118,7 @@ impl Shown {
             && self.left_behind(rows) <= row
             && row < self.reached
             && col < self.screen.width()
-            && is_printable(&self.screen, self.reached)
+            && is_typable(&self.screen, self.reached)
     }
 
     /// Returns what is shown once changes are drawn on an empty screen, on a terminal of `rows` rows.
@@ -457,7 +459,7 @@ pub fn send_below(
     out: &mut String,
 ) -> Result<Encoder, AllocError>
     requires width { old.now.screen.width ≡ new.now.screen.width }
-    requires printable { IsPrintable new.now.reached new.now.screen }
+    requires typable { IsTypable new.now.reached new.now.screen }
     requires most { new.now.reached ≤ 65535 }
     requires old_row { old_top ≤ old.now.screen.row }
     requires new_row { top ≤ new.now.screen.row }
@@ -469,6 +471,7 @@ pub fn send_below(
 {
     if old_top == 0 && top == 0 {
         return send_changed(
+            alloc,
             &old.screen,
             old.reached,
             &new.screen,
@@ -481,5 +484,5 @@ pub fn send_below(
     let after = new.screen.without_rows(alloc, top)?;
     let reached = old.reached.saturating_sub(old_top);
     let rows = new.reached.saturating_sub(top);
-    send_changed(&before, reached, &after, rows, encoder, out)
+    send_changed(alloc, &before, reached, &after, rows, encoder, out)
 }

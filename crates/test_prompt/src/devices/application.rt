@@ -2,6 +2,7 @@
 
 use ecma_terminal::{EcmaTerminal, TerminalCell};
 use std::alloc::{AllocError, Global};
+use std::cell::Cell;
 use std::test::Fail;
 use test_cases::{bytes_of, expect_rows, hold};
 use tw_device::{AnsiTerminal, Answer, DeviceTerminal, Joined, KeyReader, Pasted};
@@ -33,6 +34,55 @@ impl Application for Clerk {
     fn news(&mut self, alloc: Global) -> Result<String, AllocError> {
         self.events = self.events.saturating_add(1);
         String::from_str(alloc, if self.events == 2 { "one\ntwo\n" } else { "" })
+    }
+}
+
+/// An application whose functions are called so often, and then fail once.
+#[derive(Drop)]
+struct Failing {
+    calls: Cell<u64>,
+}
+
+impl Failing {
+    /// Counts a call.
+    fn count(&self) -> Result<(), AllocError> {
+        let calls = self.calls.get();
+        self.calls.set(calls.saturating_sub(1));
+        if calls == 1 {
+            return Err(AllocError);
+        }
+        Ok(())
+    }
+}
+
+impl Application for Failing {
+    fn validate(&self, _alloc: Global, _line: &str) -> Result<Validation, AllocError> {
+        self.count()?;
+        Ok(Validation::Valid)
+    }
+
+    fn news(&mut self, alloc: Global) -> Result<String, AllocError> {
+        self.count()?;
+        Ok(String::new(alloc))
+    }
+}
+
+/// An application that has a thousand lines of news after its second event.
+#[derive(Drop)]
+struct Crier {
+    events: u64,
+}
+
+impl Application for Crier {
+    fn news(&mut self, alloc: Global) -> Result<String, AllocError> {
+        self.events = self.events.saturating_add(1);
+        let mut news = String::new(alloc);
+        if self.events == 2 {
+            for number in 1..=1000 {
+                news.push_str(format!(in alloc; "{number}\n")?.as_str())?;
+            }
+        }
+        Ok(news)
     }
 }
 
@@ -106,6 +156,67 @@ fn read_shown(alloc: Global, typed: &str) -> Result<String, Fail> {
     let patient = rows_shown(alloc, taken.as_slice())?;
     hold(patient == shown, patient.as_str(), shown.as_str())?;
     Ok(format!(in alloc; "{line:?} {shown}")?)
+}
+
+/// Reads a line with an application, and returns what a screen shows then, with a mark where it would go on.
+fn shown_with<A: Application>(
+    alloc: Global,
+    application: &mut A,
+    typed: &[u8],
+) -> Result<String, Fail> {
+    let mut host = PromptHost::new(alloc, "> ", SIZE.cols)?
+        .with_host(PreparedHost::new(alloc))
+        .with_validator(PreparedLines::new(alloc));
+    let mut taken = Vec::new(alloc);
+    {
+        let terminal = AnsiTerminal::new(alloc, &mut taken, SIZE);
+        let mut device = Joined::new(KeyReader::new(alloc, typed), terminal);
+        let _ended = read_with(alloc, application, &mut device, &mut host, "> ");
+    }
+    taken.push(b'#')?;
+    rows_shown(alloc, taken.as_slice())
+}
+
+/// Reads a line with an application whose call of this number fails.
+fn failing_at(alloc: Global, number: &str) -> Result<String, Fail> {
+    let calls = number.parse::<u64>().or(Err("no number"))?;
+    let mut failing = Failing {
+        calls: Cell::new(calls),
+    };
+    shown_with(alloc, &mut failing, b"ab\r")
+}
+
+/// Whichever call fails, the last painting stays, and what comes next begins in the row below it.
+const FAILED: &str = r"
+1 => #
+2 => >/#
+3 => >/#
+4 => > a/#
+5 => > a/#
+6 => > ab/#
+";
+
+/// Reads a line with an application that has much to tell.
+fn told_above(alloc: Global, typed: &str) -> Result<String, Fail> {
+    let bytes = bytes_of(alloc, typed)?;
+    shown_with(alloc, &mut Crier { events: 0 }, bytes.as_slice())
+}
+
+/// The last lines stand above the line.
+const CRIED: &str = r"
+a\x0d => > a/#
+ab\x0d => 995/996/997/998/999/1000/> ab/#
+abc\x0d => 995/996/997/998/999/1000/> abc/#
+";
+
+#[test]
+fn a_function_that_fails_closes_the_line(rt: HostRuntime) -> Result<(), Fail> {
+    expect_rows(rt.alloc(), FAILED, failing_at)
+}
+
+#[test]
+fn a_thousand_lines_stand_above_the_line(rt: HostRuntime) -> Result<(), Fail> {
+    expect_rows(rt.alloc(), CRIED, told_above)
 }
 
 /// News stand above the line; Enter begins a row in a line that has no end; a pasted text keeps its rows.

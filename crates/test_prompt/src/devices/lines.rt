@@ -63,7 +63,8 @@ fn paint_long<T: DeviceTerminal>(alloc: Global, terminal: &mut T, line: &str) ->
     let (count, end) = line.split_once(' ').unwrap_or((line, ""));
     let mut text = "x".repeat(alloc, count.parse()?)?;
     text.push_str(end)?;
-    paint(alloc, terminal, 0, text.len(), text.as_str())
+    let col = text.chars().count();
+    paint(alloc, terminal, 0, col, text.as_str())
 }
 
 /// Types `count` keys; more are at hand until the last one.
@@ -222,12 +223,22 @@ const LINES: &str = r"
 // a line that goes on is typed through the rows
 3 10 0; line 0 9 > 2345678; line 0 3 > 23456789abcdefghijklm => 9abcdefghijklm
 
-// other characters are sent as they are
-24 80 0; line 0 3 > a; line 0 3 > é => \r\e[K\e[C\e[J\r\e[0m> é\r\e[3C
+// a character of one column is sent by itself, in any script
+24 80 0; line 0 3 > a; line 0 3 > é => \u{8}é
+24 80 0; line 0 3 > é; line 0 3 > b => \u{8}b
+24 80 0; line 0 3 > ж; line 0 4 > жд => д
+24 20000 0; long 500 ж; long 500 жд => д
+24 80 0; line 0 4 > жд; line 0 5 > жad => \u{8}ad
+3 10 0; line 0 9 > 234567λ; line 0 3 > 234567λμνab => μνab
+24 80 0; line 0 3 > ж; line 0 1 > ж\r\nя => \r\nя
+
+// wide characters, and marks, are sent as they are
+24 80 0; line 0 3 > a; line 0 4 > 日 => \r\e[K\e[C\e[J\r\e[0m> 日\r\e[4C
+24 80 0; line 0 3 > e; line 0 3 > e\u{301} => \r\e[K\e[C\e[J\r\e[0m> e\u{301}\r\e[3C
 
 // behind them a line is sent whole
-24 80 0; line 0 3 > é; line 0 3 > b => \r\e[K\e[C\e[J\r\e[0m> b\r\e[3C
-24 80 0; line 0 3 > é; line 0 3 > b; line 0 4 > bc => c
+24 80 0; line 0 4 > 日; line 0 3 > b => \r\e[K\e[C\e[J\r\e[0m> b\r\e[3C
+24 80 0; line 0 4 > 日; line 0 3 > b; line 0 4 > bc => c
 
 // behind a refused write a line is sent whole
 24 80 2; line 0 2 >\u{20}; line 0 3 > a; line 0 4 > ab => \r\e[K\e[C\e[J\r\e[0m> ab\r\e[4C
@@ -264,8 +275,8 @@ const LINES: &str = r"
 24 80 0; line 0 2 >\u{20}; more 0 3 > a; flush; flush =>
 24 80 0; line 0 2 >\u{20}; more 0 3 > a; flush; line 0 4 > ab => b
 
-// what is kept back goes before a line of other characters, a text of the owner, and a new size
-24 80 0; line 0 2 >\u{20}; more 0 3 > a; more 0 3 > é => a\r\e[K\e[C\e[J\r\e[0m> é\r\e[3C
+// what is kept back goes before a line of wide characters, a text of the owner, and a new size
+24 80 0; line 0 2 >\u{20}; more 0 3 > a; more 0 4 > 日 => a\r\e[K\e[C\e[J\r\e[0m> 日\r\e[4C
 24 80 0; line 0 2 >\u{20}; more 0 3 > a; says note\r\n => a\e[0mnote\r\n
 24 80 0; line 0 2 >\u{20}; more 0 3 > a; says note\r\n; line 0 3 > a => \r\e[K\e[C\e[J\r\e[0m> a\r\e[3C
 24 80 0; line 0 2 >\u{20}; more 0 3 > a; size 24 80 => a

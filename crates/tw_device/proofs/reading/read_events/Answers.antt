@@ -5,7 +5,7 @@ use Rattle.tw_lineedit.proofs.ClosingLemmas.{reads_with, fails_to_finish_with}
 use Rattle.tw_lineedit.specs.Frame.{frame, own_frame}
 use Rattle.tw_device.specs.Live.{taken_on, taken_over, fresh_frame, ComesBy, FailsBy, FailsToReadTold, IsRead, StopsFeeding}
 use Rattle.tw_lineedit.specs.Outcomes.{is_open}
-use Rattle.tw_device.specs.Steps.{seen_at, state_in, events_in}
+use Rattle.tw_device.specs.Steps.{seen_at, state_in, events_in, IsDueBy}
 use Rattle.tw_device.proofs.InTimeLemmas.{answered_calls, goes_between, goes_called, goes_closed, goes_opened, goes_still, told_calls}
 use Rattle.tw_device.proofs.LiveLemmas.{cut_as, ended_at, opened_at, read_as, stopped_at, unbegun_at}
 use Rattle.tw_device.proofs.reading.read_events.Goals as goal
@@ -46,8 +46,8 @@ returns-in_err-begin-clause-goes g c =
     let set = c.set_prompt.new.self.terminal.now in
     let begun = c.begin.new.editor.terminal.now in
     let same : set ≡ c.args.device.now = search rules in
-    goes_between state log g.D.Device.law g.met.D.Device.law_joins (taken_over rules_of f) _ set _ begun same (search rules)
-    (goes_called state log g.D.Device.law g.met.D.Device.law_joins (taken_over rules_of f) set begun c.begin.ensures.calls)
+    goes_between state log g.D.Device.law g.met.D.Device.law_joins (IsDueBy (taken_over rules_of f)) _ set _ begun same (search rules)
+    (goes_called state log g.D.Device.law g.met.D.Device.law_joins (IsDueBy (taken_over rules_of f)) set begun c.begin.ensures.calls)
 
 pub returns-in_err-stop-clause-err : goal.returns-in_err-stop-clause-err
 returns-in_err-stop-clause-err g c =
@@ -87,9 +87,9 @@ returns-in_err-stop-clause-goes g c =
     let painted = frame state value c.begin.new.editor c.args.host.now in
     let opens = opened_at rules_of overrides i f painted (search rules) (c.in_ok-begin.ensures.ok (search rules)) in
     let fed = c.take_events.new.editor.terminal.now in
-    goes_between state log g.D.Device.law g.met.D.Device.law_joins (taken_over rules_of f) _ set _ fed same (search rules)
-    (goes_opened state log g.D.Device.law g.met.D.Device.law_joins (taken_over rules_of f) (taken_on rules_of painted) set begun fed c.begin.ensures.calls c.take_events.ensures.goes
-    (λ seen. ap (λ end. end.taken) (sym (opens.run seen))))
+    goes_between state log g.D.Device.law g.met.D.Device.law_joins (IsDueBy (taken_over rules_of f)) _ set _ fed same (search rules)
+    (goes_opened state log g.D.Device.law g.met.D.Device.law_joins (IsDueBy (taken_over rules_of f)) (IsDueBy (taken_on rules_of painted)) set begun fed c.begin.ensures.calls c.take_events.ensures.goes
+    (λ seen batches due. due ∙ ap (λ end. end.taken) (sym (opens.run seen))))
 
 pub returns-in_err-line-clause-err : goal.returns-in_err-line-clause-err
 returns-in_err-line-clause-err g c =
@@ -134,10 +134,10 @@ returns-in_err-line-clause-goes g c =
     let opens = opened_at rules_of overrides i f painted (search rules) (c.in_ok-begin.ensures.ok (search rules)) in
     let fed = c.take_events.new.editor.terminal.now in
     let finished = c.finish.new.editor.terminal.now in
-    goes_between state log g.D.Device.law g.met.D.Device.law_joins (taken_over rules_of f) _ set _ finished same (search rules)
-    (goes_closed state log g.D.Device.law g.met.D.Device.law_joins (taken_over rules_of f) set fed finished
-    (goes_opened state log g.D.Device.law g.met.D.Device.law_joins (taken_over rules_of f) (taken_on rules_of painted) set begun fed c.begin.ensures.calls c.take_events.ensures.goes
-    (λ seen. ap (λ end. end.taken) (sym (opens.run seen)))) c.finish.ensures.calls)
+    goes_between state log g.D.Device.law g.met.D.Device.law_joins (IsDueBy (taken_over rules_of f)) _ set _ finished same (search rules)
+    (goes_closed state log g.D.Device.law g.met.D.Device.law_joins (IsDueBy (taken_over rules_of f)) set fed finished
+    (goes_opened state log g.D.Device.law g.met.D.Device.law_joins (IsDueBy (taken_over rules_of f)) (IsDueBy (taken_on rules_of painted)) set begun fed c.begin.ensures.calls c.take_events.ensures.goes
+    (λ seen batches due. due ∙ ap (λ end. end.taken) (sym (opens.run seen)))) c.finish.ensures.calls)
 
 pub returns-clause-ok : goal.returns-clause-ok
 returns-clause-ok g c =
@@ -211,7 +211,7 @@ returns-clause-goes g c =
     let opens = opened_at rules_of overrides i f painted (search rules) (c.in_ok-begin.ensures.ok (search rules)) in
     let fed = c.take_events.new.editor.terminal.now in
     let finished = c.finish.new.editor.terminal.now in
-    goes_between state log g.D.Device.law g.met.D.Device.law_joins (taken_over rules_of f) _ set _ finished same (search rules)
-    (goes_closed state log g.D.Device.law g.met.D.Device.law_joins (taken_over rules_of f) set fed finished
-    (goes_opened state log g.D.Device.law g.met.D.Device.law_joins (taken_over rules_of f) (taken_on rules_of painted) set begun fed c.begin.ensures.calls c.take_events.ensures.goes
-    (λ seen. ap (λ end. end.taken) (sym (opens.run seen)))) c.finish.ensures.calls)
+    goes_between state log g.D.Device.law g.met.D.Device.law_joins (IsDueBy (taken_over rules_of f)) _ set _ finished same (search rules)
+    (goes_closed state log g.D.Device.law g.met.D.Device.law_joins (IsDueBy (taken_over rules_of f)) set fed finished
+    (goes_opened state log g.D.Device.law g.met.D.Device.law_joins (IsDueBy (taken_over rules_of f)) (IsDueBy (taken_on rules_of painted)) set begun fed c.begin.ensures.calls c.take_events.ensures.goes
+    (λ seen batches due. due ∙ ap (λ end. end.taken) (sym (opens.run seen)))) c.finish.ensures.calls)

@@ -5,7 +5,7 @@ use Rattle.tw_input.specs.EventView.{EventView, event_view}
 use Rattle.tw_lineedit.specs.Frame.{frame}
 use Rattle.tw_lineedit.specs.Outcomes.{is_open}
 use Rattle.tw_device.specs.Live.{taken_on}
-use Rattle.tw_device.specs.Steps.{seen_at, events_in}
+use Rattle.tw_device.specs.Steps.{seen_at, events_in, IsDueBy}
 use Rattle.tw_device.proofs.InTimeLemmas.{answered_last, goes_feeding, told_asked, told_feeding}
 use Rattle.tw_device.proofs.LiveLemmas.{comes_fed, comes_still, frame_as, refused_fed, still_open}
 use Rattle.tw_device.proofs.reading.take_event.Goals as goal
@@ -26,17 +26,17 @@ returns-in_err-feed-in-Ok-Some-clause-err g c =
 
 pub returns-in_err-feed-in-Ok-Some-clause-goes : goal.returns-in_err-feed-in-Ok-Some-clause-goes
 returns-in_err-feed-in-Ok-Some-clause-goes g c =
-    goes_feeding g.D.Terminal.state g.D.Device.log g.D.Device.law g.D.Terminal.follows g.met.D.Device.call_notes g.met.D.Device.call_law g.met.D.Device.law_stays g.met.D.Device.law_joins (taken_on g.H.LineEditorHost.rules (frame g.D.Terminal.state g.H.LineEditorHost.value c.args.editor.now c.args.host.now)) (Ok (Some c.in-Ok-Some.event)) _ _ _
+    goes_feeding g.D.Terminal.state g.D.Device.log g.D.Device.law g.D.Terminal.follows g.met.D.Device.call_notes g.met.D.Device.call_law g.met.D.Device.law_stays g.met.D.Device.law_joins (IsDueBy (taken_on g.H.LineEditorHost.rules (frame g.D.Terminal.state g.H.LineEditorHost.value c.args.editor.now c.args.host.now))) (Ok (Some c.in-Ok-Some.event)) _ _ _
     (rw c.in-Ok-Some.field-0-is at c.in-Ok-Some.ensures.asks) c.ask.ensures.law c.feed.ensures.terminal.1 refl
 
 pub returns-in-Open-clause-goes : goal.returns-in-Open-clause-goes
 returns-in-Open-clause-goes g c =
-    goes_feeding g.D.Terminal.state g.D.Device.log g.D.Device.law g.D.Terminal.follows g.met.D.Device.call_notes g.met.D.Device.call_law g.met.D.Device.law_stays g.met.D.Device.law_joins (taken_on g.H.LineEditorHost.rules (frame g.D.Terminal.state g.H.LineEditorHost.value c.args.editor.now c.args.host.now)) (Ok (Some c.in-Ok-Some.event)) _ _ _
+    goes_feeding g.D.Terminal.state g.D.Device.log g.D.Device.law g.D.Terminal.follows g.met.D.Device.call_notes g.met.D.Device.call_law g.met.D.Device.law_stays g.met.D.Device.law_joins (IsDueBy (taken_on g.H.LineEditorHost.rules (frame g.D.Terminal.state g.H.LineEditorHost.value c.args.editor.now c.args.host.now))) (Ok (Some c.in-Ok-Some.event)) _ _ _
     (rw c.in-Ok-Some.field-0-is at c.in-Ok-Some.ensures.asks) c.ask.ensures.law c.feed.ensures.terminal.1 refl
 
 pub returns-in-Ok-Some-clause-goes : goal.returns-in-Ok-Some-clause-goes
 returns-in-Ok-Some-clause-goes g c =
-    goes_feeding g.D.Terminal.state g.D.Device.log g.D.Device.law g.D.Terminal.follows g.met.D.Device.call_notes g.met.D.Device.call_law g.met.D.Device.law_stays g.met.D.Device.law_joins (taken_on g.H.LineEditorHost.rules (frame g.D.Terminal.state g.H.LineEditorHost.value c.args.editor.now c.args.host.now)) (Ok (Some c.in-Ok-Some.event)) _ _ _
+    goes_feeding g.D.Terminal.state g.D.Device.log g.D.Device.law g.D.Terminal.follows g.met.D.Device.call_notes g.met.D.Device.call_law g.met.D.Device.law_stays g.met.D.Device.law_joins (IsDueBy (taken_on g.H.LineEditorHost.rules (frame g.D.Terminal.state g.H.LineEditorHost.value c.args.editor.now c.args.host.now))) (Ok (Some c.in-Ok-Some.event)) _ _ _
     (rw c.in-Ok-Some.field-0-is at c.in-Ok-Some.ensures.asks) c.ask.ensures.law c.feed.ensures.terminal.1 refl
 
 pub returns-in-Open-clause-ok : goal.returns-in-Open-clause-ok
@@ -78,7 +78,7 @@ returns-in-Ok-None-clause-stopped g c = (search rules, (ap (λ it. is_open it.st
 
 pub returns-in-Ok-None-clause-goes : goal.returns-in-Ok-None-clause-goes
 returns-in-Ok-None-clause-goes g c =
-    goes_feeding g.D.Terminal.state g.D.Device.log g.D.Device.law g.D.Terminal.follows g.met.D.Device.call_notes g.met.D.Device.call_law g.met.D.Device.law_stays g.met.D.Device.law_joins (taken_on g.H.LineEditorHost.rules (frame g.D.Terminal.state g.H.LineEditorHost.value c.args.editor.now c.args.host.now)) (Ok None) _ _ _ (rw c.in-Ok-None.field-0-is at c.in-Ok-None.ensures.asks) c.ask.ensures.law ([], refl) refl
+    goes_feeding g.D.Terminal.state g.D.Device.log g.D.Device.law g.D.Terminal.follows g.met.D.Device.call_notes g.met.D.Device.call_law g.met.D.Device.law_stays g.met.D.Device.law_joins (IsDueBy (taken_on g.H.LineEditorHost.rules (frame g.D.Terminal.state g.H.LineEditorHost.value c.args.editor.now c.args.host.now))) (Ok None) _ _ _ (rw c.in-Ok-None.field-0-is at c.in-Ok-None.ensures.asks) c.ask.ensures.law ([], refl) refl
 
 pub returns-clause-ok : goal.returns-clause-ok
 returns-clause-ok g c =
@@ -91,4 +91,4 @@ returns-clause-stopped g c = (search rules, (ap (λ it. is_open it.state.mode) c
 
 pub returns-clause-goes : goal.returns-clause-goes
 returns-clause-goes g c =
-    goes_feeding g.D.Terminal.state g.D.Device.log g.D.Device.law g.D.Terminal.follows g.met.D.Device.call_notes g.met.D.Device.call_law g.met.D.Device.law_stays g.met.D.Device.law_joins (taken_on g.H.LineEditorHost.rules (frame g.D.Terminal.state g.H.LineEditorHost.value c.args.editor.now c.args.host.now)) (Err c.in-Err.fault) _ _ _ c.in-Err.ensures.asks c.ask.ensures.law ([], refl) refl
+    goes_feeding g.D.Terminal.state g.D.Device.log g.D.Device.law g.D.Terminal.follows g.met.D.Device.call_notes g.met.D.Device.call_law g.met.D.Device.law_stays g.met.D.Device.law_joins (IsDueBy (taken_on g.H.LineEditorHost.rules (frame g.D.Terminal.state g.H.LineEditorHost.value c.args.editor.now c.args.host.now))) (Err c.in-Err.fault) _ _ _ c.in-Err.ensures.asks c.ask.ensures.law ([], refl) refl

@@ -2,7 +2,7 @@ use Rattle.std.proofs.Common.{rules, ◌+◌, arith, refl, ap, ◌∙◌}
 use Rattle.std.proofs.lemmas.Result.{err_from_is_err_and}
 use Rattle.tw_lineedit.specs.Frame.{frame}
 use Rattle.tw_device.specs.Live.{taken_on}
-use Rattle.tw_device.specs.Steps.{events_in}
+use Rattle.tw_device.specs.Steps.{events_in, IsDueBy}
 use Rattle.tw_device.proofs.InTimeLemmas.{goes_on, goes_still}
 use Rattle.tw_device.proofs.LiveLemmas.{comes_still, comes_then, fails_then_by, stops_by, taken_from}
 use Rattle.tw_device.proofs.reading.take_events.Goals as goal
@@ -16,7 +16,7 @@ loop-turn-init g c =
       same_reference = refl;
       comes = comes_still g.H.LineEditorHost.rules g.H.LineEditorHost.OVERRIDES (events_in (log old)) (events_in (log old)) f f refl refl;
       count = omega arith;
-      goes = goes_still g.D.Terminal.state log g.D.Device.law g.met.D.Device.law_joins (taken_on g.H.LineEditorHost.rules f) old (g.met.D.Device.law_stays old);
+      goes = goes_still g.D.Terminal.state log g.D.Device.law g.met.D.Device.law_joins (IsDueBy (taken_on g.H.LineEditorHost.rules f)) old (g.met.D.Device.law_stays old);
       still_open = c.requires;
     }
 

@@ -1,16 +1,16 @@
 use Rattle.std.proofs.Common.{◌≡◌, ◌-◌, ◌++◌, OnOk, IfOk, string_bytes, subst, sym}
 use Rattle.tw_sparing.specs.StyledScreens.{StyledView}
 use Rattle.tw_ansi.specs.Encoding.{terse_batch}
-use Rattle.tw_sparing.specs.Sending.{IsPrintable}
-use Rattle.tw_sparing.proofs.CutScreens.{cut_printable, same_changes, same_whole}
+use Rattle.tw_sparing.specs.Sending.{IsTypable}
+use Rattle.tw_sparing.proofs.CutScreens.{cut_typable, same_changes, same_whole}
 use Rattle.tw_sparing.proofs.shown.send_below.Goals as goal
 
-pub send_changed-requires-2-clause-printable : goal.send_changed-requires-2-clause-printable
-send_changed-requires-2-clause-printable c =
+pub send_changed-requires-2-clause-typable : goal.send_changed-requires-2-clause-typable
+send_changed-requires-2-clause-typable c =
     let reached = c.args.new.now.reached in
-    subst (λ n. IsPrintable n c.in_ok-after.after) (sym c.saturating_sub-rows.ensures)
-    (subst (λ (v : StyledView). IsPrintable (c.args.new.now.reached - c.args.top) v) (sym c.in_ok-after.ensures)
-    (cut_printable c.args.top c.args.new.now.reached c.args.new.now.screen c.requires.printable))
+    subst (λ n. IsTypable n c.in_ok-after.after) (sym c.saturating_sub-rows.ensures)
+    (subst (λ (v : StyledView). IsTypable (c.args.new.now.reached - c.args.top) v) (sym c.in_ok-after.ensures)
+    (cut_typable c.args.top c.args.new.now.reached c.args.new.now.screen c.requires.typable))
 
 pub returns-clause-bytes : goal.returns-clause-bytes
 returns-clause-bytes c =

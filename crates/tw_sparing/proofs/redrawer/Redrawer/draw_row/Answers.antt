@@ -3,12 +3,12 @@ use Rattle.std.proofs.lemmas.Result.{on_ok_weaker}
 use Rattle.tw_sparing.specs.Differences.{last_changed}
 use Rattle.tw_sparing.specs.Redrawings.{left_of, span_redrawn}
 use Rattle.tw_sparing.specs.Sending.{IsAdded, screen_cells}
-use Rattle.tw_sparing.proofs.AddedChanges.{row_printable, span_added}
+use Rattle.tw_sparing.proofs.AddedChanges.{row_single, span_added}
 use Rattle.tw_sparing.proofs.redrawer.Redrawer.draw_row.Goals as goal
 
-pub write_cells-requires-clause-printable : goal.write_cells-requires-clause-printable
-write_cells-requires-clause-printable c =
-    row_printable c.args.new.now.width c.width.result c.args.row c.in-Some.first c.in-Some-last_changed.last (screen_cells c.args.new.now) c.width.ensures.value c.in-Some-last_changed.ensures.bound c.requires.printable
+pub write_cells-requires-clause-single : goal.write_cells-requires-clause-single
+write_cells-requires-clause-single c =
+    row_single c.args.new.now.width c.width.result c.args.row c.in-Some.first c.in-Some-last_changed.last (screen_cells c.args.new.now) c.width.ensures.value c.in-Some-last_changed.ensures.bound c.requires.single
 
 pub returns-clause-ok : goal.returns-clause-ok
 returns-clause-ok c =

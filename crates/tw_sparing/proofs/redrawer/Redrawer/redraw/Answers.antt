@@ -1,12 +1,12 @@
 use Rattle.std.proofs.Common.{string_bytes}
 use Rattle.std.proofs.lemmas.Result.{on_err_weaker, on_ok_weaker}
 use Rattle.tw_sparing.specs.Sending.{screen_cells}
-use Rattle.tw_sparing.proofs.AddedChanges.{extends_more, holds_on_err, rows_printable, added_onward, added_by_rows, rest_by_end, rows_added}
+use Rattle.tw_sparing.proofs.AddedChanges.{extends_more, holds_on_err, rows_single, added_onward, added_by_rows, rest_by_end, rows_added}
 use Rattle.tw_sparing.proofs.redrawer.Redrawer.redraw.Goals as goal
 
-pub go_on-requires-clause-printable : goal.go_on-requires-clause-printable
-go_on-requires-clause-printable c =
-    rows_printable c.args.new.now.width c.args.rows c.end_of-end.result (screen_cells c.args.new.now) c.end_of-end.ensures.bound c.requires.printable
+pub go_on-requires-clause-single : goal.go_on-requires-clause-single
+go_on-requires-clause-single c =
+    rows_single c.args.new.now.width c.args.rows c.end_of-end.result (screen_cells c.args.new.now) c.end_of-end.ensures.bound c.requires.typable
 
 pub returns-then-goes_onward-clause-ok : goal.returns-then-goes_onward-clause-ok
 returns-then-goes_onward-clause-ok c =

@@ -1,4 +1,5 @@
 use Rattle.std.proofs.Common.{◌≡◌, ◌*◌, ◌∙◌, ◌∷◌, [], ap, subst, refl, arith, length, min, take}
+use Rattle.std.specs.Prelude.{slice_index_or}
 use Rattle.laws_screens.specs.Pens.{led}
 use Rattle.laws_screens.specs.Strokes.Stroke.{ClearBehind}
 use Rattle.tw_surface.specs.Defaults.{default_color}
@@ -19,5 +20,5 @@ returns-clause-drawn c =
     c.min-before.ensures ∙ ap (λ n. min n (c.led_to-row.result * now.width)) len ∙ ap (λ r. min (length now.cells.items) (r * now.width)) c.led_to-row.ensures in
     subst (λ v. AreDrawn (at_row (led c.args.y v.row) v) (ClearBehind paper ∷ []) c.clear_to_end.new.self) c.self.view_is
     (clears_cut old cut c.clear_to_end.new.self row paper refl c.in_ok-clear_to_end.ensures.same.width
-    (λ i low. ap styled_cell (rw cells (cut_same c.min-before.result (row * now.width) now.cells.items i now.rest before low)))
+    (λ i low. ap styled_cell (let same : slice_index_or c.in-Ok.cells.items i now.rest ≡ slice_index_or now.cells.items i now.rest = rw cells (cut_same c.min-before.result (row * now.width) now.cells.items i now.rest before low) in same))
     (subst (λ r. AreDrawn (at_row r cut) (ClearBehind paper ∷ []) c.clear_to_end.new.self) c.led_to-row.ensures c.in_ok-clear_to_end.ensures.shown))

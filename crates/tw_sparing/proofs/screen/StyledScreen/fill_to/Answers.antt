@@ -1,7 +1,8 @@
-use Rattle.std.proofs.Common.{◌≡◌, true, not, is_ok, ap, ◌∙◌, arith}
+use Rattle.std.proofs.Common.{◌≡◌, true, not, is_ok, refl, ap, ◌∙◌, arith}
 use Rattle.std.specs.Prelude.{slice_index_or}
 use Rattle.tw_sparing.specs.StyledScreens.{StyledView, styled_cell}
 use Rattle.tw_sparing.proofs.PlainCells.{grown_at, kept_with, still_plain}
+use Rattle.tw_sparing.proofs.screen.StyledScreen.fill_to.Goals.{else-len-place-via-then-len-place+else-is_err, else-len-place-via-else-len-place}
 use Rattle.tw_sparing.proofs.screen.StyledScreen.fill_to.Goals as goal
 
 pub invariant_of-self-else-is_err : goal.invariant_of-self-else-is_err
@@ -13,3 +14,18 @@ invariant_of-self-else-is_err c =
     (still_plain now.plain_from old (record old { cells = c.resize.new.self.items })
     (λ i. ap styled_cell (ap (λ l. slice_index_or l i now.rest) (rw ok at c.resize.ensures.items) ∙ grown_at c.args.place now.cells.items _ i now.rest (omega (arith, c.if-len-place.true))))
     c.self.invariant.cells)
+
+pub returns-clause-shown : goal.returns-clause-shown
+returns-clause-shown c =
+    let now = c.self.inside in
+    elim c.else-len-place.branch [
+      | else-len-place-via-then-len-place+else-is_err w ↦
+          let ok : is_ok w.resize.result ≡ true = w.is_err.ensures.negation ∙ ap not w.if-is_err.false in
+          rw (w.self-is, ← c.self.view_is) (record {
+            cells = λ i. ap styled_cell (let same : slice_index_or w.resize.new.self.items i now.rest ≡ slice_index_or now.cells.items i now.rest =
+                ap (λ l. slice_index_or l i now.rest) (rw ok at w.resize.ensures.items) ∙ grown_at c.args.place now.cells.items _ i now.rest (omega (arith, w.if-len-place.true)) in same);
+            row = refl;
+            col = refl;
+          })
+      | else-len-place-via-else-len-place w ↦ rw (w.self-is, ← c.self.view_is) (record { cells = λ i. refl; row = refl; col = refl })
+    ]

@@ -1,6 +1,6 @@
 use Rattle.std.proofs.Common.{◌≡◌, ◌<◌, ◌≤◌, ap, sym, ◌∙◌, subst, arith}
 use Rattle.laws_screens.specs.StyledCells.{StyledCell}
-use Rattle.tw_sparing.specs.StyledScreens.{StyledView, IsPutAt}
+use Rattle.tw_sparing.specs.StyledScreens.{StyledView, IsPutAt, styled_cell}
 use Rattle.tw_sparing.proofs.DrawnCells.{put_shows}
 use Rattle.tw_sparing.proofs.screen.StyledScreen.put.Goals as goal
 
@@ -10,7 +10,7 @@ returns-clause-shown c s h =
     let old = c.args.self.now in
     let now = c.self.inside in
     let mid : StyledView = record { width = now.width; row = now.row; col = now.col; kept = now.kept; cells = now.cells.items; rest = now.rest } in
-    let x : StyledCell = record { ch = c.args.character; attributes = old.kept } in
+    let x : StyledCell = styled_cell (record { character = c.args.character; attributes = old.kept }) in
     let width : now.width ≡ old.width = ap (λ v. v.width) c.self.view_is ∙ written.same.width in
     let col : now.col ≡ old.col = ap (λ v. v.col) c.self.view_is ∙ written.put.col in
     let above : 0 < old.width = omega (arith, c.self.invariant.reach.width_above, width) in

@@ -2,10 +2,8 @@ use Rattle.std.proofs.Common.{◌≡◌, ◌+◌, ◌-◌, ◌*◌, ◌/◌, ◌
 use Rattle.std.proofs.Math.Nat.{div-le_self, mod-lt}
 use Rattle.std.proofs.lemmas.List.{length-append, length-map}
 use Rattle.laws_screens.specs.Strokes.{steps}
-use Rattle.laws_screens.specs.Pens.{char_stroke}
-use Rattle.laws_screens.specs.StyledCells.{styled}
 use Rattle.tw_sparing.specs.declared.cell.ScreenCell.{ScreenCell}
-use Rattle.tw_sparing.specs.StyledScreens.{StyledView, ShowsStyled, IsPlainFrom, cell_under, plain_behind}
+use Rattle.tw_sparing.specs.StyledScreens.{StyledView, ShowsStyled, IsPlainFrom, cell_under, character_stroke, plain_behind}
 use Rattle.tw_sparing.proofs.PlainCells.{plain_typed}
 use Rattle.tw_sparing.proofs.TypedOn.{IsAtEnd, type_shows}
 use Rattle.tw_sparing.proofs.screen.StyledScreen.type_on.Goals as goal
@@ -49,6 +47,6 @@ returns-clause-shown c s =
       most = c.self.invariant.reach.col_most;
     } in
     let new : List ScreenCell → StyledView = λ l. record { width = now.width; row = last / now.width; col = last % now.width + 1; kept = now.kept; cells = l; rest = now.rest } in
-    subst (λ v. ShowsStyled v s → ShowsStyled (new c.push_cells.new.cells.items) (steps v.width (map (char_stroke styled v.kept) text) s)) c.self.view_is
-    (λ h. subst (λ l. ShowsStyled (new l) (steps now.width (map (char_stroke styled now.kept) text) s)) (sym cells)
+    subst (λ v. ShowsStyled v s → ShowsStyled (new c.push_cells.new.cells.items) (steps v.width (map (character_stroke v.kept) text) s)) c.self.view_is
+    (λ h. subst (λ l. ShowsStyled (new l) (steps now.width (map (character_stroke now.kept) text) s)) (sym cells)
     (type_shows text old s last end h c.requires.printable c.requires.some (omega (arith, len))))

@@ -3,9 +3,7 @@ use Rattle.std.proofs.lemmas.List.{map-append, nil_from_length}
 use Rattle.std.proofs.lemmas.Str.{IsUtf8-past_char, chars_past_char, chars-nil}
 use Rattle.std.specs.Str.{chars}
 use Rattle.std.specs.Str.Iter.{chars_rest}
-use Rattle.laws_screens.specs.Pens.{char_stroke}
-use Rattle.laws_screens.specs.StyledCells.{styled}
-use Rattle.tw_sparing.specs.StyledScreens.{AreDrawn}
+use Rattle.tw_sparing.specs.StyledScreens.{AreDrawn, character_stroke}
 use Rattle.tw_sparing.proofs.DrawnCells.{draws_more}
 use Rattle.tw_sparing.proofs.screen.StyledScreen.write_apart.Goals as goal
 
@@ -15,7 +13,7 @@ loop-character-preserved c =
     let split = c.in-Some.ensures.steps.0 in
     let rest = chars_rest c.next.new.self in
     let done = inv.written.0 in
-    let stroke = char_stroke styled c.args.self.now.kept in
+    let stroke = character_stroke c.args.self.now.kept in
     let same = c.play.ensures.same in
     record {
       utf8 = IsUtf8-past_char _ rest _ inv.utf8 split;
@@ -25,17 +23,19 @@ loop-character-preserved c =
         inv.written.1 ∙ ap (λ l. done ++ l) (chars_past_char _ rest _ inv.utf8 split) ∙ sym (append_assoc done (c.in-Some.character ∷ []) (chars rest)),
         rw (map-append stroke done (c.in-Some.character ∷ []))
             (draws_more c.args.self.now c.loop-character.self c.play.new.self (map stroke done) (stroke c.in-Some.character ∷ []) inv.same.width inv.written.2
-            (subst (λ k. AreDrawn c.loop-character.self (char_stroke styled k c.in-Some.character ∷ []) c.play.new.self) inv.same.kept c.in_ok-play.ensures.shown)),
+            (subst (λ k. AreDrawn c.loop-character.self (character_stroke k c.in-Some.character ∷ []) c.play.new.self) inv.same.kept c.in_ok-play.ensures.shown)),
       );
     }
 
 pub returns-in_err-play-clause-refused : goal.returns-in_err-play-clause-refused
 returns-in_err-play-clause-refused c =
     let inv = c.loop-character.invariant in
+    let stroke = character_stroke c.args.self.now.kept in
+    let rest = chars (chars_rest c.loop-character.character-iterator) in
     given c.from_residual.result (record {
-      written = inv.written.0;
-      left = chars (chars_rest c.loop-character.character-iterator);
-      parts = inv.written.1;
+      drawn = map stroke inv.written.0;
+      left = map stroke rest;
+      parts = ap (map stroke) inv.written.1 ∙ map-append stroke inv.written.0 rest;
       draws = λ s h. c.in_err-play.ensures.refused _ (inv.written.2 s h);
     })
   where

@@ -2,9 +2,7 @@
 use Rattle.std.proofs.Common.{◌≡◌, ℕ, List, ◌++◌, map}
 use Rattle.std.specs.Str.{chars, IsUtf8}
 use Rattle.std.specs.Str.Iter.{chars_rest}
-use Rattle.laws_screens.specs.Pens.{char_stroke}
-use Rattle.laws_screens.specs.StyledCells.{styled}
-use Rattle.tw_sparing.specs.StyledScreens.{AreDrawn, IsSameBut}
+use Rattle.tw_sparing.specs.StyledScreens.{AreDrawn, IsSameBut, character_stroke}
 use Rattle.tw_sparing.proofs.screen.StyledScreen.write_apart.Given as goal
 
 abbrev pub invariant-loop-character : goal.invariant-loop-character
@@ -13,5 +11,5 @@ invariant-loop-character l =
     record {
       utf8 : IsUtf8 rest;
       same : IsSameBut l.fn.self l.self;
-      written : (done : List ℕ) × (chars l.text ≡ done ++ chars rest) × AreDrawn l.fn.self (map (char_stroke styled l.fn.self.kept) done) l.self;
+      written : (done : List ℕ) × (chars l.text ≡ done ++ chars rest) × AreDrawn l.fn.self (map (character_stroke l.fn.self.kept) done) l.self;
     }

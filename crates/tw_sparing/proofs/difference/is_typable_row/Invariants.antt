@@ -1,11 +1,11 @@
--- The columns before this one hold printable characters, under colours by bytes.
+-- The columns before this one hold characters of one column, under colours by bytes.
 use Rattle.std.proofs.Common.{◌<◌, ℕ}
 use Rattle.tw_sparing.specs.ChangedScreens.{AreByBytes}
-use Rattle.tw_sparing.specs.Sending.{ArePrintable, screen_cells}
-use Rattle.tw_sparing.proofs.difference.is_printable_row.Given as goal
+use Rattle.tw_sparing.specs.Sending.{AreSingle, screen_cells}
+use Rattle.tw_sparing.proofs.difference.is_typable_row.Given as goal
 
 abbrev pub invariant-loop-col : goal.invariant-loop-col
 invariant-loop-col l = record {
-  printable : ArePrintable l.col (screen_cells l.screen l.row);
+  single : AreSingle l.col (screen_cells l.screen l.row);
   colors : (j : ℕ) → j < l.col → AreByBytes (screen_cells l.screen l.row j).attributes;
 }
