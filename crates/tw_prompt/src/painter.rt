@@ -65,8 +65,11 @@ impl Painter {
         self.alloc
     }
 
-    /// Shows a part of the line, by its byte offsets, in a style.
+    /// Shows a part of the line, by its byte offsets, in a style. An empty part shows nothing.
     pub fn paint(&mut self, part: Range<usize>, style: Style) -> Result<(), AllocError> {
+        if part.start >= part.end {
+            return Ok(());
+        }
         let over = StyledRange {
             start: part.start,
             end: part.end,
