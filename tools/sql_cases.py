@@ -168,7 +168,7 @@ def sql_columns_of_the_tables_that_are_named(path):
     with Database(path) as session:
         session.type(PEOPLE + b"create table pets (id integer, \"nick name\" text);\r")
         session.ask(b"insert into pets values (1, 'Tom');\r.tables\r", b"people\r\npets\r\n")
-        session.ask(b"select  from pets;" + CTRL_A + CTRL_F * 7 + b"n\t\r", b"nick name\r\n---------\r\nTom\r\n")
+        session.ask(b"select  from pets;" + CTRL_A + CTRL_F * 7 + b"n\t\r\r", b"nick name\r\n---------\r\nTom\r\n")
         session.type(b"select id\r")
         session.wait_for(GOES_ON)
         session.ask(b"from people where na\t = 'Ann';\r", b" 1\r\n(1 row)\r\n")
